@@ -1,0 +1,4 @@
+pub mod Pick
+pub mod Le
+pub mod LeLaws
+pub mod PartLaws

@@ -1,0 +1,4 @@
+// Numbers in bytes.
+pub mod bytes;
+pub mod cut;
+pub mod handle;
