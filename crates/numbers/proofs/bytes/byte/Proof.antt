@@ -1,14 +1,10 @@
-use mathlib.Core.Path.{_≡_, sym}
+use mathlib.Core.Path.{sym}
 use Prim.Native.Nat.{_+_}
 use denote.Ref.{now}
-use native.Mathlib.Omega.{arith}
 use lib.ListN.{List·getD-eq-default}
 use borrow.Author.Needs.{needs}
 use Rattle.numbers.proofs.bytes.byte.Statement.{statement}
 use Rattle.numbers.proofs.bytes.byte.Tie as tie
-use Rattle.numbers.proofs.bytes.byte.Reads as reads
-use Rattle.numbers.proofs.bytes.byte.Lts as lts
-use Rattle.numbers.proofs.bytes.room.Reads as room-reads
 
 room-requires : tie.Need-room-requires
 room-requires c κs = search needs

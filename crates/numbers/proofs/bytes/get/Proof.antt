@@ -1,21 +1,17 @@
 -- The number read so far is that of the bytes from at + i on.
-use Prim.Native.Nat.{ℕ, zero, suc, _+_, _-_, _*_, _^_, _≤_, _<_}
-use mathlib.Core.Path.{_≡_, refl, sym, ap, _∙_}
+use Prim.Native.Nat.{ℕ, suc, _+_, _-_, _*_, _^_, _≤_, _<_}
+use mathlib.Core.Path.{_≡_, _∙_}
 use mathlib.Core.List.{List}
 use native.Mathlib.Omega.{arith}
 use native.Mathlib.Nat.{pow-suc, pow-le-pow-right, lt-of-lt-of-le, sub-self}
 use lib.Dec.{lit<}
 use denote.Ref.{now}
-use lib.ListN.{length, getD, drop}
+use lib.ListN.{getD, drop}
 use Rattle.numbers.specs.Le.{num}
 use Rattle.numbers.specs.LeLaws.{num-step}
--- what a turn adds, at one byte more
 use borrow.Author.Needs.{needs}
 use Rattle.numbers.proofs.bytes.get.Statement.{statement}
 use Rattle.numbers.proofs.bytes.get.Tie as tie
-use Rattle.numbers.proofs.bytes.get.Reads as reads
-use Rattle.numbers.proofs.bytes.get.Lts as lts
-use Rattle.numbers.proofs.bytes.byte.Reads as byte-reads
 
 abbrev Inv-loop : tie.InvT-loop
 Inv-loop s at width i₀ acc₀ i acc = (i ≤ width) × (acc ≡ num (width - i) (drop (at + i) s)) × (acc < 256 ^ (width - i))
@@ -54,13 +50,13 @@ mul-acc c =
 byte-requires : tie.Need-byte-requires Inv-loop μ-loop
 byte-requires c κs = search needs
 
-cast-acc : tie.Need-cast-acc Inv-loop μ-loop
-cast-acc c = search needs
+wide-requires : tie.Need-wide-requires Inv-loop μ-loop
+wide-requires c κs = search needs
 
 add-acc : tie.Need-add-acc Inv-loop μ-loop
 add-acc c =
-    let l = c .before .before .loop in
-    let h : l .acc < 2 ^ 56 = fits (c .before .before .before .before .args .width) (l .i) (l .acc) (search needs) (search needs) (l .inv .2) in
+    let l = c .before .before .before .loop in
+    let h : l .acc < 2 ^ 56 = fits (c .before .before .before .before .before .args .width) (l .i) (l .acc) (search needs) (search needs) (l .inv .2) in
     search needs
 
 loop-less : tie.Need-loop-less Inv-loop μ-loop
@@ -68,11 +64,11 @@ loop-less c = search needs
 
 loop-again : tie.Need-loop-again Inv-loop μ-loop
 loop-again c =
-    let l = c .before .before .loop in
-    let a = c .before .before .before .before .args in (
+    let l = c .before .before .before .loop in
+    let a = c .before .before .before .before .before .args in (
       search needs,
-      turn (now (a .s)) (a .at) (a .width) (l .i) (l .acc) (c .byte .result) (search needs) (search needs) (l .inv .1) (c .byte .ensures),
-      small (a .width) (l .i) (l .acc) (c .byte .result) (search needs) (search needs) (l .inv .2) (search needs),
+      turn (now (a .s)) (a .at) (a .width) (l .i) (l .acc) (c .wide .result) (search needs) (search needs) (l .inv .1) (c .wide .ensures .0 ∙ c .before .byte .ensures),
+      small (a .width) (l .i) (l .acc) (c .wide .result) (search needs) (search needs) (l .inv .2) (search needs),
     )
 
 returns : tie.Need-returns Inv-loop μ-loop
@@ -94,7 +90,7 @@ get-spec =
     sub-i
     mul-acc
     byte-requires
-    cast-acc
+    wide-requires
     add-acc
     loop-less
     loop-again

@@ -4,10 +4,6 @@ use Rattle.numbers.specs.PartLaws.{front}
 use borrow.Author.Needs.{needs}
 use Rattle.numbers.proofs.bytes.part.Statement.{statement}
 use Rattle.numbers.proofs.bytes.part.Tie as tie
-use Rattle.numbers.proofs.bytes.part.Reads as reads
-use Rattle.numbers.proofs.bytes.part.Lts as lts
-use Rattle.numbers.proofs.bytes.lesser.Reads as lesser-reads
-use Rattle.numbers.proofs.bytes.tail.Reads as tail-reads
 
 tail-requires : tie.Need-tail-requires
 tail-requires c κs = search needs

@@ -1,6 +1,6 @@
 -- What is left to write, written on what is there, gives what is to be written on what was there.
-use Prim.Native.Nat.{ℕ, zero, suc, _+_, _-_, _*_, _/_, _%_, _≤_, _<_}
-use mathlib.Core.Path.{_≡_, refl, sym, ap, _∙_}
+use Prim.Native.Nat.{ℕ, zero, suc, _+_, _-_, _/_, _%_, _≤_, _<_}
+use mathlib.Core.Path.{_≡_, refl, sym, _∙_}
 use mathlib.Core.List.{List}
 use native.Mathlib.Omega.{arith}
 use native.Mathlib.Numerals.{add-one}
@@ -11,8 +11,6 @@ use Rattle.numbers.specs.LeLaws.{sets-out}
 use borrow.Author.Needs.{needs}
 use Rattle.numbers.proofs.bytes.put.Statement.{statement}
 use Rattle.numbers.proofs.bytes.put.Tie as tie
-use Rattle.numbers.proofs.bytes.put.Reads as reads
-use Rattle.numbers.proofs.bytes.put.Lts as lts
 
 abbrev Inv-loop : tie.InvT-loop
 Inv-loop buf₀ at width x rest₀ to₀ left₀ buf rest to left =

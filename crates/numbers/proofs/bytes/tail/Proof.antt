@@ -2,9 +2,6 @@ use Rattle.numbers.specs.PartLaws.{rest}
 use borrow.Author.Needs.{needs}
 use Rattle.numbers.proofs.bytes.tail.Statement.{statement}
 use Rattle.numbers.proofs.bytes.tail.Tie as tie
-use Rattle.numbers.proofs.bytes.tail.Reads as reads
-use Rattle.numbers.proofs.bytes.tail.Lts as lts
-use Rattle.numbers.proofs.bytes.lesser.Reads as lesser-reads
 
 lesser-requires : tie.Need-lesser-requires
 lesser-requires c κs = search needs

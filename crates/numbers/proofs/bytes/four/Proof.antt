@@ -1,0 +1,30 @@
+-- Two numbers of 2 bytes, the low one first.
+use Rattle.numbers.specs.HalfLaws.{halves-read}
+use native.Mathlib.Omega.{arith}
+use denote.Ref.{now}
+use borrow.Author.Needs.{needs}
+use Rattle.numbers.proofs.bytes.four.Statement.{statement}
+use Rattle.numbers.proofs.bytes.four.Tie as tie
+
+two-requires : tie.Need-two-requires
+two-requires c κs = search needs
+
+add-two : tie.Need-add-two
+add-two c = search needs
+
+two-requires-2 : tie.Need-two-requires-2
+two-requires-2 c κs = search needs
+
+mul-result : tie.Need-mul-result
+mul-result c = search needs
+
+add-result : tie.Need-add-result
+add-result c = search needs
+
+returns : tie.Need-returns
+returns c =
+    let a = c .before .before .before .args in
+    (halves-read 2 (a .at) (now (a .s)) (c .before .two .result) (c .two2 .result) (c .before .two .ensures .0) (c .two2 .ensures .0), omega arith)
+
+pub four-spec : {M : Type 1} → statement M
+four-spec = tie.close (tie.spec two-requires add-two two-requires-2 mul-result add-result returns)
