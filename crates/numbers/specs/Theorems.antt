@@ -1,16 +1,22 @@
 -- What holds of numbers and handles, of the very definitions that the calls promise; proved in proofs/Theorems.antt.
 use Prim.Native.Nat.{ℕ, _+_, _-_, _^_, _≤_, _<_}
 use mathlib.Core.Path.{_≡_}
-use mathlib.Core.List.{List, _++_}
+use mathlib.Core.List.{List, [], _∷_, _++_}
 use mathlib.Core.Logic.{_⊎_}
+use lib.Dec.{ltb}
 use lib.ListN.{length, getD, take, drop}
-use Rattle.numbers.specs.Wrote.{wroteOf, placed}
-use Rattle.numbers.specs.Leb128.{shortest, inGroups, number, groups, readOf}
+use Rattle.numbers.specs.Pick.{pick}
+use Rattle.numbers.specs.Numbers.{numberOfWrote, numberOfRefusal, numberOfReadU64, numberOfReadU32, numberOfReadHandle, numberOfReadIndirection}
+use Rattle.numbers.specs.Wrote.{fits, wroteOf, placed}
+use Rattle.numbers.specs.Leb128.{shortest, inGroups, valueOf, carried, number, groups, readOf, asU64, asU32}
 use Rattle.numbers.specs.Handle.{handleBytes, indirectionBytes, handleOf, indirectionOf}
 use Rattle.numbers.specs.declared.leb128.Wrote.the-variants.{Used}
 use Rattle.numbers.specs.declared.handle.ValueHandle.{ValueHandle}
 use Rattle.numbers.specs.declared.handle.BlobIndirection.{BlobIndirection}
+use Rattle.numbers.specs.declared.leb128.NumberRefusal.{NumberRefusal}
+use Rattle.numbers.specs.declared.handle.ReadHandle.the-variants as handle
 use Rattle.numbers.specs.declared.handle.ReadHandle.the-variants.{Handle}
+use Rattle.numbers.specs.declared.handle.ReadIndirection.the-variants as indirection
 use Rattle.numbers.specs.declared.handle.ReadIndirection.the-variants.{Indirection}
 
 -- reading what was written gives the number and the count, at every width
@@ -59,3 +65,30 @@ abbrev pub IndirectionEncodes : Type 0
 IndirectionEncodes =
     (at n : ℕ) (s : List ℕ) (i : BlobIndirection) → ((k : ℕ) → getD s k 0 < 256) → indirectionOf at s ≡ Indirection i n → n ≡ length (indirectionBytes i)
     → indirectionBytes i ≡ take n (drop at s)
+
+-- document 01's numbers: 3 exactly where the bytes do not fit
+abbrev pub WroteNumbers : Type 0
+WroteNumbers =
+    (bytes buf : List ℕ) (at : ℕ) → numberOfWrote (wroteOf bytes at buf) ≡ pick (fits bytes at buf) (0, length bytes ∷ []) (3, [])
+
+-- 10 exactly where the last allowed byte carries on or the value passes the width, 7 with its values exactly where the input ends before
+abbrev pub readNumber : ℕ → ℕ → List ℕ → ℕ × List ℕ
+readNumber w at s =
+    let t = drop at s in
+    let n = carried (groups w) t in
+    pick (ltb n (groups w))
+    (pick (ltb n (length t))
+    (pick (ltb (valueOf (take (n + 1) t)) (2 ^ w)) (0, valueOf (take (n + 1) t) ∷ (n + 1) ∷ []) (10, []))
+    (7, at ∷ (n + 1) ∷ n ∷ []))
+    (10, [])
+
+abbrev pub ReadNumbers : Type 0
+ReadNumbers =
+    (w at : ℕ) (s : List ℕ)
+    → (numberOfReadU64 (asU64 (readOf w at s)) ≡ readNumber w at s) × (numberOfReadU32 (asU32 (readOf w at s)) ≡ readNumber w at s)
+
+-- a handle's refusal, and an indirection's, has the number and values of the number that was refused
+abbrev pub DecodeNumbers : Type 0
+DecodeNumbers =
+    (why : NumberRefusal)
+    → (numberOfReadHandle (handle.Refused why) ≡ numberOfRefusal why) × (numberOfReadIndirection (indirection.Refused why) ≡ numberOfRefusal why)

@@ -1,0 +1,13 @@
+-- Laws on plain numbers and lists that the proofs share.
+mod Bytes
+mod Cases
+mod Chunks
+mod Classes
+mod Gather
+mod Loops
+mod Parts
+mod Seam
+mod Small
+mod Stripes
+mod Tables
+mod Whole

@@ -1,0 +1,74 @@
+-- A turn of the loop is one lane of the description, with a word of w for the secret's.
+use mathlib.Core.Path.{_≡_, refl}
+use Prim.Native.Nat.{_≤_, _-_}
+use native.Mathlib.Numerals.{add-one}
+use native.Mathlib.Omega.{arith}
+use Rattle.hash.specs.Notation.{u64s, forUp}
+use Rattle.hash.specs.Large.{accumulateLane}
+use Rattle.hash.specs.ShapeLong.{laneOf}
+use borrow.Author.Needs.{needs}
+use Rattle.hash.proofs.long.accumulate.Statement.{statement}
+use Rattle.hash.proofs.long.accumulate.Tie as tie
+
+abbrev Inv-loop : tie.InvT-loop
+Inv-loop s i w o r₀ k₀ r k = (k ≤ 8) × (r ≡ forUp k (accumulateLane (u64s s i) (u64s w o)) r₀)
+
+abbrev μ-loop : tie.MeasureT-loop
+μ-loop s i w o r₀ k₀ r k = 8 - k
+
+loop-holds : tie.Need-loop-holds Inv-loop μ-loop
+unfolding forUp
+loop-holds c = (omega arith, refl)
+
+mul-read64 : tie.Need-mul-read64 Inv-loop μ-loop
+mul-read64 c = search needs
+
+add-read64 : tie.Need-add-read64 Inv-loop μ-loop
+add-read64 c = search needs
+
+read64-requires : tie.Need-read64-requires Inv-loop μ-loop
+read64-requires c κs = search needs
+
+mul-read64-2 : tie.Need-mul-read64-2 Inv-loop μ-loop
+mul-read64-2 c = search needs
+
+add-read64-2 : tie.Need-add-read64-2 Inv-loop μ-loop
+add-read64-2 c = search needs
+
+read64-requires-2 : tie.Need-read64-requires-2 Inv-loop μ-loop
+read64-requires-2 c κs = search needs
+
+lane-requires : tie.Need-lane-requires Inv-loop μ-loop
+lane-requires c κs = search needs
+
+add-k : tie.Need-add-k Inv-loop μ-loop
+add-k c = search needs
+
+loop-less : tie.Need-loop-less Inv-loop μ-loop
+loop-less c = search needs
+
+loop-again : tie.Need-loop-again Inv-loop μ-loop
+unfolding forUp accumulateLane laneOf u64s
+loop-again c = (omega arith, rw add-one (cc))
+
+returns : tie.Need-returns Inv-loop μ-loop
+returns c = let e : c .before .loop .k ≡ 8 = omega arith in cc
+
+pub accumulate-spec : {M : Type 1} → statement M
+accumulate-spec =
+    tie.close
+    (tie.spec
+    Inv-loop
+    μ-loop
+    loop-holds
+    mul-read64
+    add-read64
+    read64-requires
+    mul-read64-2
+    add-read64-2
+    read64-requires-2
+    lane-requires
+    add-k
+    loop-less
+    loop-again
+    returns)

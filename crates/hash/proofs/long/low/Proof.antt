@@ -1,0 +1,71 @@
+-- The four pairs are the turns of the description's loop, with the secret's words written out.
+use Rattle.hash.specs.Notation.{mul64, PRIME64-1}
+use Rattle.hash.proofs.Tables.{merge-eight, words-low}
+use borrow.Author.Needs.{needs}
+use Rattle.hash.proofs.long.low.Statement.{statement}
+use Rattle.hash.proofs.long.low.Tie as tie
+
+wrapping-mul-requires : tie.Need-wrapping-mul-requires
+wrapping-mul-requires c κs = search needs
+
+array-read-pair : tie.Need-array-read-pair
+array-read-pair c = search needs
+
+array-read-pair-2 : tie.Need-array-read-pair-2
+array-read-pair-2 c = search needs
+
+pair-requires : tie.Need-pair-requires
+pair-requires c κs = search needs
+
+array-read-pair-3 : tie.Need-array-read-pair-3
+array-read-pair-3 c = search needs
+
+array-read-pair-4 : tie.Need-array-read-pair-4
+array-read-pair-4 c = search needs
+
+pair-requires-2 : tie.Need-pair-requires-2
+pair-requires-2 c κs = search needs
+
+array-read-pair-5 : tie.Need-array-read-pair-5
+array-read-pair-5 c = search needs
+
+array-read-pair-6 : tie.Need-array-read-pair-6
+array-read-pair-6 c = search needs
+
+pair-requires-3 : tie.Need-pair-requires-3
+pair-requires-3 c κs = search needs
+
+array-read-pair-7 : tie.Need-array-read-pair-7
+array-read-pair-7 c = search needs
+
+array-read-pair-8 : tie.Need-array-read-pair-8
+array-read-pair-8 c = search needs
+
+pair-requires-4 : tie.Need-pair-requires-4
+pair-requires-4 c κs = search needs
+
+avalanche-requires : tie.Need-avalanche-requires
+avalanche-requires c κs = search needs
+
+returns : tie.Need-returns
+returns c = let a = c .before .before .before .before .before .before .args in cc (merge-eight (a .t1) (mul64 (a .n) PRIME64-1) 11 _ _ _ _ _ _ _ _ words-low)
+
+pub low-spec : {M : Type 1} → statement M
+low-spec =
+    tie.close
+    (tie.spec
+    wrapping-mul-requires
+    array-read-pair
+    array-read-pair-2
+    pair-requires
+    array-read-pair-3
+    array-read-pair-4
+    pair-requires-2
+    array-read-pair-5
+    array-read-pair-6
+    pair-requires-3
+    array-read-pair-7
+    array-read-pair-8
+    pair-requires-4
+    avalanche-requires
+    returns)

@@ -1,0 +1,48 @@
+-- All stripes and the last are the description's accumulation (all-stripes); a slice up to its length is the slice.
+use mathlib.Core.Path.{sym, ap}
+use native.Mathlib.Omega.{arith}
+use lib.ListN.{length}
+use lib.Seq.{take-length}
+use Rattle.hash.specs.Large.{XXH3-128-large}
+use Rattle.hash.proofs.Whole.{all-stripes}
+use borrow.Author.Needs.{needs}
+use Rattle.hash.proofs.long.over_240.Statement.{statement}
+use Rattle.hash.proofs.long.over_240.Tie as tie
+
+slice-aggregate-begin : tie.Need-slice-aggregate-begin
+slice-aggregate-begin c = sym (ap length (take-length (c .before .before .args .s .now)))
+
+sub-begin : tie.Need-sub-begin
+sub-begin c = search needs
+
+begin-requires : tie.Need-begin-requires
+begin-requires c κs = omega (arith, ap length (take-length (c .before .before .args .s .now)))
+
+sub-last : tie.Need-sub-last
+sub-last c = search needs
+
+last-requires : tie.Need-last-requires
+last-requires c κs = search needs
+
+low-requires : tie.Need-low-requires
+low-requires c κs = search needs
+
+high-requires : tie.Need-high-requires
+high-requires c κs = search needs
+
+returns : tie.Need-returns
+unfolding XXH3-128-large
+returns c = let s = c .before .before .before .before .before .before .args .s .now in cc (take-length s, all-stripes s)
+
+pub over-240-spec : {M : Type 1} → statement M
+over-240-spec =
+    tie.close
+    (tie.spec
+    slice-aggregate-begin
+    sub-begin
+    begin-requires
+    sub-last
+    last-requires
+    low-requires
+    high-requires
+    returns)

@@ -1,0 +1,9 @@
+pub mod Notation
+pub mod Secret
+pub mod Small
+pub mod Medium
+pub mod Large
+pub mod XXH3
+pub mod Shape
+pub mod ShapeLong
+pub mod Bounds
