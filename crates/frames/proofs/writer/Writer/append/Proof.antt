@@ -1,0 +1,27 @@
+-- A raw append of the value's length, where a u32 holds it; where none does, it is refused by 2 whatever it states.
+use mathlib.Core.Path.{_∙_}
+use Rattle.frames.specs.WriteLaws.{plain-answer, plain-bytes}
+use borrow.Author.Needs.{needs}
+use Rattle.frames.proofs.writer.Writer.append.Statement.{statement}
+use Rattle.frames.proofs.writer.Writer.append.Tie as tie
+
+lesser-requires : tie.Need-lesser-requires
+lesser-requires c κs = search needs
+
+cast-stated : tie.Need-cast-stated
+cast-stated c = search needs
+
+append-raw-requires : tie.Need-append-raw-requires
+append-raw-requires c κs = search needs
+
+same-length : tie.Need-same-length
+same-length c = search needs
+
+returns : tie.Need-returns
+returns c =
+    let r = c .before .before .append-raw .ensures in
+    (r .0 ∙ plain-answer _ _ _ _ _ (search needs), r .1 ∙ plain-bytes _ _ _ _ _ _ (search needs))
+
+pub append-spec : {M : Type 1} → statement M
+append-spec =
+    tie.close (tie.spec lesser-requires cast-stated append-raw-requires same-length returns)

@@ -1,0 +1,16 @@
+pub mod Layout
+pub mod LayoutLaws
+pub mod Numbers
+pub mod Scan
+pub mod ScanLaws
+pub mod StepLaws
+pub mod Write
+pub mod WriteLaws
+pub mod Point
+pub mod PointLaws
+pub mod Runs
+pub mod Ran
+pub mod CallLaws
+pub mod RunLaws
+pub mod Scans
+pub mod Theorems

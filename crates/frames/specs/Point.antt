@@ -1,0 +1,62 @@
+-- What a point read tells, and the part that it hands back: document 01, "The scan and the point read".
+use Prim.Native.Nat.{ℕ, _+_, _-_}
+use mathlib.Core.List.{List, _++_}
+use lib.ListN.{length, take, drop}
+use lib.Dec.{ltb}
+use Rattle.hash.specs.declared.Hash128.{Hash128}
+use Rattle.hash.specs.XXH3.{xxh3-128}
+use Rattle.numbers.specs.Pick.{pick}
+use Rattle.numbers.specs.declared.cut.CutShort.{CutShort}
+use Rattle.numbers.specs.declared.handle.ValueHandle.{ValueHandle}
+use Rattle.frames.specs.Layout.{blob, headerOf, starts, sameSum}
+use Rattle.frames.specs.declared.place.Place.{Place}
+use Rattle.frames.specs.declared.reader.Told.{Told}
+
+-- where nothing was found: an empty part
+abbrev pub noPlace : Place
+noPlace = record { at = 0; len = 0 }
+
+-- where nothing was hashed
+abbrev pub noSum : Hash128
+noSum = record { low = 0; high = 0 }
+
+-- where nothing was cut short
+abbrev pub noCut : CutShort
+noCut = record { at = 0; needed = 0; present = 0 }
+
+-- a refusal by its number, without a sum
+abbrev pub told : ℕ → CutShort → Told
+told number cut = record { number = number; value = noPlace; stored = noSum; computed = noSum; cut = cut }
+
+-- 7: where reading began, the bytes needed from there, the bytes present
+abbrev pub cutTold : ℕ → ℕ → ℕ → Told
+cutTold at needed present = told 7 (record { at = at; needed = needed; present = present })
+
+-- found where the sums are the same, else 9 with both
+unfoldable pub summed : Place → Hash128 → Hash128 → Told
+summed value stored computed =
+    pick (sameSum stored computed)
+    (record { number = 0; value = value; stored = stored; computed = computed; cut = noCut })
+    (record { number = 9; value = noPlace; stored = stored; computed = computed; cut = noCut })
+
+-- the sum over the header's key and the bytes from 38 + given key length on
+unfoldable pub takenSum : List ℕ → ℕ → ℕ → Hash128
+takenSum t hk k = xxh3-128 (take hk (drop 38 t) ++ drop (38 + k) t)
+
+-- t was taken at `at` for a given key length k and on-disk size: the mark, 8; the header's key must fit what was taken, 7; the sum, 9
+unfoldable pub withinOf : List ℕ → ℕ → ℕ → ℕ → Told
+withinOf t at k size =
+    pick (starts blob t)
+    (pick (ltb (length t - 38) (headerOf t .key)) (cutTold (at + 38) (headerOf t .key) (length t - 38))
+    (summed (record { at = at + 38 + k; len = size }) (headerOf t .sum) (takenSum t (headerOf t .key) k)))
+    (told 8 noCut)
+
+-- a read by a handle with a key of k bytes needs 38 + k + on-disk size bytes from the offset, else 7
+unfoldable pub toldOf : List ℕ → ℕ → ValueHandle → Told
+toldOf s k h =
+    pick (ltb (length s - h .offset) (38 + k + h .size)) (cutTold (h .offset) (38 + k + h .size) (length s - h .offset))
+    (withinOf (take (38 + k + h .size) (drop (h .offset) s)) (h .offset) k (h .size))
+
+-- the value's part of the file
+abbrev pub partOf : List ℕ → Told → List ℕ
+partOf s r = take (r .value .len) (drop (r .value .at) s)
