@@ -1,0 +1,26 @@
+-- Drops one after another (document 01, a batch "is taken whole, or refused with its first refusal").
+use mathlib.Core.List.{List, [], _∷_, map}
+use Rattle.numbers.specs.Pick.{pick}
+use Rattle.numbers.specs.declared.handle.BlobIndirection.{BlobIndirection}
+use Rattle.garbage.specs.declared.map.FragmentationMap.{FragmentationMap}
+use Rattle.garbage.specs.declared.map.CountRefusal.the-variants.{MapFull}
+use Rattle.garbage.specs.declared.map.Counted.the-variants.{Refused}
+use Rattle.garbage.specs.declared.dropped.Dropped.{Dropped}
+use Rattle.garbage.specs.Entries.{Entry, added, Outcome, made, sumTooBig, mapFull, judged}
+use Rattle.garbage.specs.Maps.{entriesOf, wellFormed}
+use Rattle.garbage.specs.Drops.{one, answered}
+
+-- what was made goes on; a refusal stays
+abbrev pub afterwards : Outcome → (List Entry → Outcome) → Outcome
+afterwards (made l) next = next l
+afterwards sumTooBig next = sumTooBig
+afterwards mapFull next = mapFull
+
+-- entries added in turn, each judged
+unfoldable pub inTurn : List Entry → List Entry → Outcome
+inTurn [] l = made l
+inTurn (e ∷ es) l = afterwards (judged (added e l)) (inTurn es)
+
+-- a malformed map is 11 first, also for an empty list
+abbrev pub batchOf : FragmentationMap → List BlobIndirection → Dropped
+batchOf m ps = pick (wellFormed m) (answered m (inTurn (map one ps) (entriesOf m))) (record { answer = Refused MapFull; map = m })

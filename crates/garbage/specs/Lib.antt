@@ -1,0 +1,17 @@
+pub mod Entries
+pub mod Maps
+pub mod Lookups
+pub mod Drops
+pub mod Batch
+pub mod Records
+pub mod Merges
+pub mod Stored
+pub mod Ratio
+pub mod Verdicts
+pub mod Numbers
+pub mod Tallies
+pub mod Arrangements
+pub mod Files
+pub mod Theorems
+pub mod Marked
+pub mod Columns

@@ -1,0 +1,64 @@
+-- What holds of the map and the verdicts, of the very definitions that the calls promise; proved in proofs/Theorems.antt.
+use Prim.Native.Nat.{ℕ, _+_, _*_, _^_, _<_, _≤_}
+use mathlib.Core.Path.{_≡_}
+use mathlib.Core.List.{List, [], _++_, List·Permᴰ}
+use mathlib.Core.Bool.{true, false}
+use lib.ListN.{length, getD}
+use lib.IntN.{pos}
+use lib.Ieee.{Float, binary32, ofInt}
+use lib.Ieee.Exact.{HasValue}
+use Rattle.numbers.specs.Pick.{pick}
+use Rattle.numbers.specs.declared.handle.BlobIndirection.{BlobIndirection}
+use Rattle.frames.specs.declared.writer.Report.{Report}
+use Rattle.garbage.specs.declared.map.FragmentationMap.{FragmentationMap}
+use Rattle.garbage.specs.declared.stored.LoadAnswer.the-variants.{Used}
+use Rattle.garbage.specs.declared.verdict.DeadVerdict.the-variants.{Dead, Wanted, NoEntry}
+use Rattle.garbage.specs.Entries.{allFit}
+use Rattle.garbage.specs.Maps.{entriesOf, wellFormed, emptyMap, holding}
+use Rattle.garbage.specs.Lookups.{found, lookupOf}
+use Rattle.garbage.specs.Stored.{storedForm, storeAnswer, storeBytes, loadOf}
+use Rattle.garbage.specs.Ratio.{lost, rounded}
+use Rattle.garbage.specs.Verdicts.{deadOf, staleOf}
+use Rattle.garbage.specs.Tallies.{ofFile, tally, AllTyped}
+use Rattle.garbage.specs.Arrangements.{Ran, ran, dropEach, Arrangement, arranged, pointersOf, kept, storing}
+use Rattle.garbage.specs.Files.{Frame, File, allGone, AllFinished, Distinct, In, someGone, heavyGone}
+
+-- a map that is stored and read back holds the same entries, whatever follows
+abbrev pub ReadsBack : Type 0
+ReadsBack =
+    (m : FragmentationMap) (rest : List ℕ) → wellFormed m ≡ true → allFit (entriesOf m) ≡ true → ((i : ℕ) → i < m .count → getD (m .ids) i 0 < 2 ^ 64)
+    → loadOf (storedForm m ++ rest) ≡ record { answer = Used (length (storedForm m)); map = holding emptyMap (entriesOf m) }
+
+-- once over the number of dropped bits: a u64 of any size, rounded in integers and scaled, is the value of IEEE 754's own rounding
+abbrev pub Rounds : Type 0
+Rounds = (x : ℕ) → 0 < x → x < 2 ^ 64 → HasValue (ofInt binary32 (pos x)) false (rounded (lost x) x * 2 ^ lost x) 1
+
+-- in well-formed maps, a file's verdicts depend on its own entry, its own total and the threshold only
+abbrev pub OwnEntry : Type 0
+OwnEntry =
+    (m n : FragmentationMap) (id other : ℕ) (r s : Report) (threshold : Float) → wellFormed m ≡ true → wellFormed n ≡ true
+    → found id (entriesOf m) ≡ found other (entriesOf n) → r .stated ≡ s .stated
+    → (deadOf m id r ≡ deadOf n other s) × (staleOf m id r threshold ≡ staleOf n other s threshold)
+
+-- the map's rule: after accepted drops from an empty map each id's entry is the count and the two sums over the drops of that id, and no other id has one
+abbrev pub CountsDrops : Type 0
+CountsDrops =
+    (ps : List BlobIndirection) (m : FragmentationMap) (id : ℕ) → AllTyped ps → dropEach ps emptyMap ≡ ran m → lookupOf m id ≡ tally id (ofFile id ps)
+
+-- Demand 3. "Take finished files with distinct ids": Distinct, and Finished of each (written from offset 0 and zero counts, so its report adds up its frames).
+-- "drop, marked as indirections, pointers handed out for their frames": `dropping`, of the encoded record with the mark. "each frame's at most once": the pointers
+-- are those of frames that are gone, in some order. "from empty maps. Deal the drops over one or more maps, in any order": leaves, and a permutation of the pointers.
+-- "merge all of these in any order and grouping": any tree. "refused nowhere": `arranged a ≡ ran m`.
+
+-- "If one arrangement is refused nowhere, none is, and given room all store the same bytes": 11 cannot be the answer, so storing it is refused for want of room only
+abbrev pub SameBytes : Type 0
+SameBytes =
+    (a b : Arrangement) (m : FragmentationMap) → AllTyped (pointersOf a) → AllTyped (pointersOf b) → List·Permᴰ (pointersOf a) (pointersOf b) → arranged a ≡ ran m
+    → (wellFormed m ≡ true) × ((buf : List ℕ) → storing (arranged b) buf ≡ kept (storeAnswer m buf) (storeBytes m buf))
+
+-- "A file is then judged dead exactly when at least one of its frames was dropped and every frame with a stated length above zero was"
+abbrev pub DeadExactly : Type 0
+DeadExactly =
+    (fs : List File) (a : Arrangement) (m : FragmentationMap) (f : File) → AllFinished fs → Distinct fs → In f fs
+    → AllTyped (pointersOf a) → List·Permᴰ (pointersOf a) (allGone fs) → arranged a ≡ ran m
+    → deadOf m (f .id) (f .report) ≡ pick (someGone (f .frames)) (pick (heavyGone (f .frames)) Dead Wanted) NoEntry

@@ -1,0 +1,194 @@
+// The stored form: a count, then 28 bytes for each entry.
+ghost use mathlib.Core.Path.{_≡_};
+ghost use Prim.Native.Nat.{ℕ, _+_, _*_, _<_, _≤_};
+ghost use lib.ListN.{length, drop};
+ghost use lib.Seq.{sets};
+ghost use mathlib.Core.List.{[]};
+ghost use Rattle.garbage.specs.Maps.{Columns, entriesOf};
+ghost use Rattle.garbage.specs.Columns.{Whole, Rising, state, holds, insteadOf};
+ghost use Rattle.garbage.specs.Stored.{entryBytes, entriesBytes, entryIn, entriesIn, insteadAll, storeAnswer, storeBytes, noneLoaded, someLoaded, loadOf};
+
+use crate::columns::{insert, place, write};
+use crate::map::{FragmentationEntry, FragmentationMap, entry_at, well_formed};
+use numbers::bytes::{get_u32, get_u64, put_u32, put_u64};
+use numbers::cut::CutShort;
+
+pub enum StoreRefusal {
+    MapFull,
+    NoRoom,
+}
+
+pub enum Stored {
+    Used(usize),
+    Refused(StoreRefusal),
+}
+
+pub enum LoadRefusal {
+    CutShort(CutShort),
+    MapFull,
+}
+
+pub enum LoadAnswer {
+    Used(usize),
+    Refused(LoadRefusal),
+}
+
+// The map that was read; refused, an empty one.
+pub struct Loaded {
+    pub answer: LoadAnswer,
+    pub map: FragmentationMap,
+}
+
+fn put_entry(buf: &mut [u8], at: usize, e: FragmentationEntry)
+    requires { ⌜ at + 28 ≤ length (now buf) ⌝ }
+    ensures { λ _. ⌜ now (buf .exit) ≡ sets (now (buf .entry)) at (entryBytes e) ⌝ }
+{
+    put_u64(buf, at, e.id);
+    put_u32(buf, at + 8, e.frames);
+    put_u64(buf, at + 12, e.stated);
+    put_u64(buf, at + 20, e.disk);
+}
+
+fn get_entry(s: &[u8], at: usize) -> FragmentationEntry
+    requires { ⌜ at + 28 ≤ length (now s) ⌝ }
+    ensures { λ r. ⌜ r ≡ entryIn (drop at (now (s .entry))) ⌝ }
+{
+    FragmentationEntry {
+        id: get_u64(s, at),
+        frames: get_u32(s, at + 8),
+        stated: get_u64(s, at + 12),
+        disk: get_u64(s, at + 20),
+    }
+}
+
+fn put_entries(m: FragmentationMap, buf: &mut [u8])
+    requires { ⌜ (m .count ≤ 64) × (4 + 28 * m .count ≤ length (now buf)) ⌝ }
+    ensures { λ _. ⌜ now (buf .exit) ≡ sets (now (buf .entry)) 4 (entriesBytes (entriesOf m)) ⌝ }
+{
+    let mut i = 0;
+    while i < m.count {
+        put_entry(buf, 4 + 28 * i, entry_at(m, i));
+        i += 1;
+    }
+}
+
+// An entry put at its id's place, instead of what stood there: the count after it.
+fn put_instead(
+    n: usize,
+    ids: &mut [u64; 64],
+    frames: &mut [u32; 64],
+    stated: &mut [u64; 64],
+    disk: &mut [u64; 64],
+    e: FragmentationEntry,
+) -> usize
+    requires { ⌜ (n < 64) × Rising n (record { ids = now ids; frames = now frames; stated = now stated; disk = now disk }) ⌝ }
+    ensures { λ r. ⌜ state r (record { ids = now (ids .exit); frames = now (frames .exit); stated = now (stated .exit); disk = now (disk .exit) })
+        ≡ insteadOf (state n (record { ids = now (ids .entry); frames = now (frames .entry); stated = now (stated .entry); disk = now (disk .entry) })) e ⌝ }
+{
+    let i = place(ids, n, e.id);
+    if i < n {
+        if ids[i] == e.id {
+            write(i, ids, frames, stated, disk, e);
+            return n;
+        }
+    }
+    insert(n, i, ids, frames, stated, disk, e);
+    n + 1
+}
+
+// The `k` entries that stand from 4 on: how many ids they have.
+fn get_entries(
+    s: &[u8],
+    k: usize,
+    ids: &mut [u64; 64],
+    frames: &mut [u32; 64],
+    stated: &mut [u64; 64],
+    disk: &mut [u64; 64],
+) -> usize
+    requires { ⌜ (k ≤ 64) × (4 + 28 * k ≤ length (now s)) × Whole (record { ids = now ids; frames = now frames; stated = now stated; disk = now disk }) ⌝ }
+    ensures { λ r. ⌜ state r (record { ids = now (ids .exit); frames = now (frames .exit); stated = now (stated .exit); disk = now (disk .exit) })
+        ≡ holds (record { ids = now (ids .entry); frames = now (frames .entry); stated = now (stated .entry); disk = now (disk .entry) }) (insteadAll (entriesIn k (drop 4 (now (s .entry)))) []) ⌝ }
+{
+    let mut n = 0;
+    let mut i = 0;
+    while i < k {
+        n = put_instead(n, ids, frames, stated, disk, get_entry(s, 4 + 28 * i));
+        i += 1;
+    }
+    n
+}
+
+fn load_none(why: LoadRefusal) -> Loaded
+    ensures { λ r. ⌜ r ≡ noneLoaded why ⌝ }
+{
+    Loaded {
+        answer: LoadAnswer::Refused(why),
+        map: FragmentationMap::new(),
+    }
+}
+
+fn load_some(s: &[u8], k: usize) -> Loaded
+    requires { ⌜ (k ≤ 64) × (4 + 28 * k ≤ length (now s)) ⌝ }
+    ensures { λ r. ⌜ r ≡ someLoaded k (now (s .entry)) ⌝ }
+{
+    let mut ids = [0u64; 64];
+    let mut frames = [0u32; 64];
+    let mut stated = [0u64; 64];
+    let mut disk = [0u64; 64];
+    let n = get_entries(s, k, &mut ids, &mut frames, &mut stated, &mut disk);
+    let map = FragmentationMap {
+        count: n,
+        ids,
+        frames,
+        stated,
+        disk,
+    };
+    Loaded {
+        answer: LoadAnswer::Used(4 + 28 * k),
+        map,
+    }
+}
+
+impl FragmentationMap {
+    // At the front of `buf`.
+    pub fn store(self, buf: &mut [u8]) -> Stored
+        ensures { λ r. ⌜ (r ≡ storeAnswer self (now (buf .entry))) × (now (buf .exit) ≡ storeBytes self (now (buf .entry))) ⌝ }
+    {
+        if well_formed(self) {
+            let n = self.count;
+            let need = 4 + 28 * n;
+            if buf.len() < need {
+                return Stored::Refused(StoreRefusal::NoRoom);
+            }
+            put_u32(buf, 0, n as u32);
+            put_entries(self, buf);
+            return Stored::Used(need);
+        }
+        Stored::Refused(StoreRefusal::MapFull)
+    }
+
+    // From the front of `s`; what follows is left.
+    pub fn load(s: &[u8]) -> Loaded
+        ensures { λ r. ⌜ r ≡ loadOf (now (s .entry)) ⌝ }
+    {
+        if s.len() < 4 {
+            return load_none(LoadRefusal::CutShort(CutShort {
+                at: 0,
+                needed: 4,
+                present: s.len(),
+            }));
+        }
+        let k = get_u32(s, 0) as usize;
+        if 64 < k {
+            return load_none(LoadRefusal::MapFull);
+        }
+        if s.len() - 4 < 28 * k {
+            return load_none(LoadRefusal::CutShort(CutShort {
+                at: 4,
+                needed: 28 * k,
+                present: s.len() - 4,
+            }));
+        }
+        load_some(s, k)
+    }
+}
