@@ -44,7 +44,7 @@ pub data Agrees : Outcome → Ran → Type 0 where
 in-order : (m : FragmentationMap) (l : List Entry) → Holds m l → ascendingFrom 0 l ≡ true
 in-order m l h = ap (ascendingFrom 0) (sym (h .entries)) ∙ well-ascending m (h .well)
 
-held : (m : FragmentationMap) (l : List Entry) → length l ≤ 64 → ascendingFrom 0 l ≡ true → Holds (holding m l) l
+pub held : (m : FragmentationMap) (l : List Entry) → length l ≤ 64 → ascendingFrom 0 l ≡ true → Holds (holding m l) l
 held m l k t = record {
   entries = rows-with (columnsOf m) l;
   well = both (leb (length l) 64) (ascendingFrom 0 (entriesOf (holding m l))) (le-leb (length l) 64 k) (ap (ascendingFrom 0) (rows-with (columnsOf m) l) ∙ t);

@@ -19,3 +19,5 @@ pub mod Arranging
 pub mod Judging
 pub mod ReadingBack
 pub mod Theorems
+pub mod Batching
+pub mod Writing

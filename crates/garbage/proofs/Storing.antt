@@ -111,10 +111,10 @@ module _ (c : Columns) (w : Whole c) (s : List ℕ) where
   get-more i t t′ e p q r =
       let l : List Entry = read i in
       let z : read (i + 1) ≡ instead e l =
-        ap (λ (k : ℕ). insteadAll (entriesIn k (drop 4 s)) []) (add-one i)
-        ∙ ap (λ (es : List Entry). insteadAll es []) (read-end i (drop 4 s))
-        ∙ instead-end (entriesIn i (drop 4 s)) (entryIn (drop (28 * i) (drop 4 s))) []
-        ∙ ap (λ (x : Entry). instead x l) (ap entryIn (drop-drop (28 * i) 4 s) ∙ sym q) in
+      ap (λ (k : ℕ). insteadAll (entriesIn k (drop 4 s)) []) (add-one i)
+      ∙ ap (λ (es : List Entry). insteadAll es []) (read-end i (drop 4 s))
+      ∙ instead-end (entriesIn i (drop 4 s)) (entryIn (drop (28 * i) (drop 4 s))) []
+      ∙ ap (λ (x : Entry). instead x l) (ap entryIn (drop-drop (28 * i) 4 s) ∙ sym q) in
       r
       ∙ ap (λ (u : State). insteadOf u e) p
       ∙ ap (λ (m : List Entry). holds (withEntries c l) (instead e m)) (rows-with c l)

@@ -81,6 +81,6 @@ dead-exactly fs a m f w d i t p e =
     let x : Made (outcome a) m = made-of (outcome a) (arranged a) m (agrees a t) e in
     let r = out-made a (x .list) (x .is) in
     let l : lookupOf m (f .id) ≡ tally (f .id) (goneOf (f .frames)) =
-      held-of m (x .list) (f .id) (x .holds) ∙ ap (found (f .id)) (r .0 ∙ sum-is a ∙ permuted p [])
-      ∙ tallied (f .id) (allGone fs) ∙ ap (tally (f .id)) (own-drops f fs w d i) in
+    held-of m (x .list) (f .id) (x .holds) ∙ ap (found (f .id)) (r .0 ∙ sum-is a ∙ permuted p [])
+    ∙ tallied (f .id) (allGone fs) ∙ ap (tally (f .id)) (own-drops f fs w d i) in
     ap (λ (y : Lookup). deadBy y (f .report .stated)) l ∙ dead-by (f .id) (f .report .stated) (f .frames) (finished-in f fs w i .total)

@@ -51,7 +51,7 @@ module _ (n : ℕ) (c : Columns) (e : Entry) (f : Fine n c) where
   }
 
 -- ---- all turns, said on the list of entries
-idles : (n : ℕ) (c : Columns) (es : List Entry) → 64 < n → foldOf (state n c) es ≡ state n c
+pub idles : (n : ℕ) (c : Columns) (es : List Entry) → 64 < n → foldOf (state n c) es ≡ state n c
 unfolding foldOf pick
 idles n c [] h = refl
 idles n c (e ∷ es) h = rw (lt-leb n 64 h) (idles n c es h)

@@ -4,11 +4,12 @@ use Rattle.numbers.specs.Pick.{pick}
 use Rattle.numbers.specs.declared.handle.BlobIndirection.{BlobIndirection}
 use Rattle.garbage.specs.declared.map.FragmentationMap.{FragmentationMap}
 use Rattle.garbage.specs.declared.map.CountRefusal.the-variants.{MapFull}
-use Rattle.garbage.specs.declared.map.Counted.the-variants.{Refused}
+use Rattle.garbage.specs.declared.map.Counted.{Counted}
+use Rattle.garbage.specs.declared.map.Counted.the-variants.{Done, Refused}
 use Rattle.garbage.specs.declared.dropped.Dropped.{Dropped}
 use Rattle.garbage.specs.Entries.{Entry, added, Outcome, made, sumTooBig, mapFull, judged}
 use Rattle.garbage.specs.Maps.{entriesOf, wellFormed}
-use Rattle.garbage.specs.Drops.{one, answered}
+use Rattle.garbage.specs.Drops.{one, answered, droppedOf}
 
 -- what was made goes on; a refusal stays
 abbrev pub afterwards : Outcome → (List Entry → Outcome) → Outcome
@@ -24,3 +25,12 @@ inTurn (e ∷ es) l = afterwards (judged (added e l)) (inTurn es)
 -- a malformed map is 11 first, also for an empty list
 abbrev pub batchOf : FragmentationMap → List BlobIndirection → Dropped
 batchOf m ps = pick (wellFormed m) (answered m (inTurn (map one ps) (entriesOf m))) (record { answer = Refused MapFull; map = m })
+
+-- the same drops made one call after another: where one is refused, its refusal with the first map
+abbrev pub goingOn : Counted → FragmentationMap → Dropped → Dropped
+goingOn Done first next = next
+goingOn (Refused why) first next = record { answer = Refused why; map = first }
+
+unfoldable pub oneByOne : FragmentationMap → FragmentationMap → List BlobIndirection → Dropped
+oneByOne first m [] = record { answer = Done; map = m }
+oneByOne first m (p ∷ ps) = let d : Dropped = droppedOf m p in goingOn (d .answer) first (oneByOne first (d .map) ps)

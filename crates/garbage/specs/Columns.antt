@@ -6,8 +6,14 @@ use mathlib.Core.Bool.{Bool, true, false, _&&_}
 use lib.ListN.{length, take, drop, getD, set}
 use lib.Dec.{ltb, leb, eqb}
 use Rattle.numbers.specs.Pick.{pick}
+use Rattle.numbers.specs.declared.handle.BlobIndirection.{BlobIndirection}
+use Rattle.garbage.specs.declared.map.FragmentationMap.{FragmentationMap}
+use Rattle.garbage.specs.declared.map.CountRefusal.the-variants.{MapFull, SumTooBig}
+use Rattle.garbage.specs.declared.map.Counted.the-variants.{Done, Refused}
+use Rattle.garbage.specs.declared.dropped.Dropped.{Dropped}
 use Rattle.garbage.specs.Entries.{Entry, plus, added, fits, allFit, Outcome, made, sumTooBig, mapFull, judged}
-use Rattle.garbage.specs.Maps.{Columns, entryAt, rows, withEntries}
+use Rattle.garbage.specs.Maps.{Columns, columnsOf, mapOf, entryAt, rows, withEntries, wellFormed}
+use Rattle.garbage.specs.Drops.{one}
 use Rattle.garbage.specs.Stored.{instead}
 
 abbrev pub oneMore : Bool → ℕ → ℕ
@@ -125,3 +131,22 @@ totalOf id (e ∷ l) = pick (eqb (e .id) id) e (totalOf id l)
 unfoldable pub sumsFit : List Entry → List Entry → Bool
 sumsFit [] l = true
 sumsFit (e ∷ es) l = fits (plus (totalOf (e .id) l) e) && sumsFit es l
+
+-- pointers dropped in turn, and what a batch begins with and gives
+unfoldable pub foldPointers : State → List BlobIndirection → State
+foldPointers t [] = t
+foldPointers t (p ∷ ps) = foldPointers (turnOf t (one p)) ps
+
+abbrev pub beginOf : FragmentationMap → ℕ
+beginOf m = pick (wellFormed m) (m .count) 65
+
+abbrev pub finishOf : FragmentationMap → ℕ → Columns → Dropped
+finishOf m n c =
+    pick (leb n 64) (record { answer = Done; map = mapOf n c })
+    (pick (eqb n 65) (record { answer = Refused MapFull; map = m }) (record { answer = Refused SumTooBig; map = m }))
+
+abbrev pub finished : FragmentationMap → State → Dropped
+finished m t = finishOf m (t .n) (t .columns)
+
+abbrev pub walkedOf : FragmentationMap → List BlobIndirection → Dropped
+walkedOf m ps = finished m (foldPointers (state (beginOf m) (columnsOf m)) ps)

@@ -8,10 +8,11 @@ pub mod Merges
 pub mod Stored
 pub mod Ratio
 pub mod Verdicts
+pub mod Columns
 pub mod Numbers
 pub mod Tallies
 pub mod Arrangements
 pub mod Files
+pub mod Written
 pub mod Theorems
 pub mod Marked
-pub mod Columns

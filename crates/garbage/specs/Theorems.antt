@@ -1,7 +1,7 @@
 -- What holds of the map and the verdicts, of the very definitions that the calls promise; proved in proofs/Theorems.antt.
 use Prim.Native.Nat.{ℕ, _+_, _*_, _^_, _<_, _≤_}
 use mathlib.Core.Path.{_≡_}
-use mathlib.Core.List.{List, [], _++_, List·Permᴰ}
+use mathlib.Core.List.{List, [], _∷_, _++_, List·Permᴰ}
 use mathlib.Core.Bool.{true, false}
 use lib.ListN.{length, getD}
 use lib.IntN.{pos}
@@ -14,13 +14,16 @@ use Rattle.garbage.specs.declared.map.FragmentationMap.{FragmentationMap
 use Rattle.garbage.specs.declared.stored.LoadAnswer.the-variants.{Used}
 use Rattle.garbage.specs.declared.verdict.DeadVerdict.the-variants.{Dead, Wanted, NoEntry}
 use Rattle.garbage.specs.Entries.{allFit}
-use Rattle.garbage.specs.Maps.{entriesOf, wellFormed, emptyMap, holding}
+use Rattle.garbage.specs.Maps.{columnsOf, entriesOf, wellFormed, emptyMap, holding}
+use Rattle.garbage.specs.Columns.{Whole}
+use Rattle.garbage.specs.Batch.{batchOf, oneByOne}
 use Rattle.garbage.specs.Lookups.{found, lookupOf}
 use Rattle.garbage.specs.Stored.{storedForm, storeAnswer, storeBytes, loadOf}
 use Rattle.garbage.specs.Ratio.{lost, rounded}
 use Rattle.garbage.specs.Verdicts.{deadOf, staleOf}
 use Rattle.garbage.specs.Tallies.{ofFile, tally, AllTyped}
 use Rattle.garbage.specs.Arrangements.{Ran, ran, dropEach, Arrangement, arranged, pointersOf, kept, storing}
+use Rattle.garbage.specs.Written.{Written, runOf, AllFromZero, fileOf, filesOf, Among}
 use Rattle.garbage.specs.Files.{Frame, File, allGone, AllFinished, Distinct, In, someGone, heavyGone}
 
 -- a map that is stored and read back holds the same entries, whatever follows
@@ -45,6 +48,12 @@ abbrev pub CountsDrops : Type 0
 CountsDrops =
     (ps : List BlobIndirection) (m : FragmentationMap) (id : ℕ) → AllTyped ps → dropEach ps emptyMap ≡ ran m → lookupOf m id ≡ tally id (ofFile id ps)
 
+-- a batch into a well-formed map is its drops made one after another
+abbrev pub BatchDrops : Type 0
+BatchDrops =
+    (n : ℕ) (a b x y : List ℕ) (ps : List BlobIndirection) → let m : FragmentationMap = record { count = n; ids = a; frames = b; stated = x; disk = y } in
+    Whole (columnsOf m) → wellFormed m ≡ true → batchOf m ps ≡ oneByOne m m ps
+
 -- Demand 3. "Take finished files with distinct ids": Distinct, and Finished of each (written from offset 0 and zero counts, so its report adds up its frames).
 -- "drop, marked as indirections, pointers handed out for their frames": `dropping`, of the encoded record with the mark. "each frame's at most once": the pointers
 -- are those of frames that are gone, in some order. "from empty maps. Deal the drops over one or more maps, in any order": leaves, and a permutation of the pointers.
@@ -62,3 +71,16 @@ DeadExactly =
     (fs : List File) (a : Arrangement) (m : FragmentationMap) (f : File) → AllFinished fs → Distinct fs → In f fs
     → AllTyped (pointersOf a) → List·Permᴰ (pointersOf a) (allGone fs) → arranged a ≡ ran m
     → deadOf m (f .id) (f .report) ≡ pick (someGone (f .frames)) (pick (heavyGone (f .frames)) Dead Wanted) NoEntry
+
+-- Demand 3, of the writer's own runs: the pointers are the indirections that its appends handed out, the report is the one that finishing gave
+abbrev pub WrittenSameBytes : Type 0
+WrittenSameBytes =
+    (fs : List Written) (a b : Arrangement) (m : FragmentationMap) → AllFromZero fs → Distinct (filesOf fs)
+    → List·Permᴰ (pointersOf a) (allGone (filesOf fs)) → List·Permᴰ (pointersOf b) (allGone (filesOf fs)) → arranged a ≡ ran m
+    → (wellFormed m ≡ true) × ((buf : List ℕ) → storing (arranged b) buf ≡ kept (storeAnswer m buf) (storeBytes m buf))
+
+abbrev pub WrittenDeadExactly : Type 0
+WrittenDeadExactly =
+    (fs : List Written) (a : Arrangement) (m : FragmentationMap) (f : Written) (report : Report) → AllFromZero fs → Distinct (filesOf fs) → Among f fs
+    → runOf f .reports ≡ report ∷ [] → List·Permᴰ (pointersOf a) (allGone (filesOf fs)) → arranged a ≡ ran m
+    → deadOf m (f .writer .id) report ≡ pick (someGone (fileOf f .frames)) (pick (heavyGone (fileOf f .frames)) Dead Wanted) NoEntry

@@ -5,7 +5,6 @@ ghost use Prim.Native.Nat.{ℕ, _+_, _<_, _≤_};
 ghost use lib.ListN.{length, getD, take, drop};
 ghost use Rattle.garbage.specs.Maps.{Columns};
 ghost use Rattle.garbage.specs.Columns.{placeIn, risingFrom, insertedAt, Inserted, written, Whole, Ready, Grew, state, addOf};
-
 use crate::map::FragmentationEntry;
 
 // The first of the `n` ids, which ascend, that is not below `id`, or `n`: by halves.

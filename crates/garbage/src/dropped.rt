@@ -5,9 +5,12 @@ ghost use lib.ListN.{length};
 ghost use Rattle.garbage.specs.Maps.{Columns, mapOf};
 ghost use Rattle.garbage.specs.Drops.{droppedOf, one};
 ghost use Rattle.garbage.specs.Columns.{Told};
-
-use crate::columns::{add, ascending};
-use crate::map::{Counted, CountRefusal, FragmentationEntry, FragmentationMap};
+use crate::columns::add;
+use crate::columns::ascending;
+use crate::map::CountRefusal;
+use crate::map::Counted;
+use crate::map::FragmentationEntry;
+use crate::map::FragmentationMap;
 use numbers::handle::BlobIndirection;
 
 pub struct Dropped {
@@ -76,14 +79,7 @@ impl FragmentationMap {
         let mut frames = self.frames;
         let mut stated = self.stated;
         let mut disk = self.disk;
-        let answer = drop_into(
-            &mut count,
-            &mut ids,
-            &mut frames,
-            &mut stated,
-            &mut disk,
-            p,
-        );
+        let answer = drop_into(&mut count, &mut ids, &mut frames, &mut stated, &mut disk, p);
         let map = FragmentationMap {
             count,
             ids,

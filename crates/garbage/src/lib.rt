@@ -1,4 +1,5 @@
 // The fragmentation map: what was dropped of each blob file, and what is judged by it.
+pub mod batch;
 pub mod columns;
 pub mod dropped;
 pub mod map;

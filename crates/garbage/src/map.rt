@@ -4,8 +4,8 @@ ghost use Prim.Native.Nat.{ℕ, _<_, _≤_};
 ghost use mathlib.Core.Bool.{true};
 ghost use Rattle.garbage.specs.Maps.{emptyMap, columnsOf, entryAt, wellFormed};
 ghost use Rattle.garbage.specs.Lookups.{lookupOf};
-
-use crate::columns::{ascending, place};
+use crate::columns::ascending;
+use crate::columns::place;
 
 // What was dropped of one file: frames, stated bytes, on-disk value bytes.
 pub struct FragmentationEntry {

@@ -6,10 +6,15 @@ ghost use Rattle.garbage.specs.Entries.{plus, fits, addedAll, ascendingF
 ghost use Rattle.garbage.specs.Maps.{Columns, rows, entriesOf, wellFormed};
 ghost use Rattle.garbage.specs.Columns.{Ready, Fine, Turned, state, foldOf, settled, coded, totalOf, sumsFit};
 ghost use Rattle.garbage.specs.Merges.{mergeAnswered, mergedOf};
-
-use crate::columns::{add, place};
+use crate::columns::add;
+use crate::columns::place;
 use crate::dropped::told;
-use crate::map::{Counted, CountRefusal, FragmentationEntry, FragmentationMap, entry_at, well_formed};
+use crate::map::CountRefusal;
+use crate::map::Counted;
+use crate::map::FragmentationEntry;
+use crate::map::FragmentationMap;
+use crate::map::entry_at;
+use crate::map::well_formed;
 
 // The target holds the totals of both and the source is empty; refused, both are as they came in.
 pub struct Merged {
@@ -159,7 +164,14 @@ fn merge_sound(source: FragmentationMap, target: FragmentationMap) -> Merged
     let mut stated = target.stated;
     let mut disk = target.disk;
     let k = told(ids, frames, stated, disk);
-    let n = merge_columns(source, target.count, &mut ids, &mut frames, &mut stated, &mut disk);
+    let n = merge_columns(
+        source,
+        target.count,
+        &mut ids,
+        &mut frames,
+        &mut stated,
+        &mut disk,
+    );
     if n <= 64 {
         let m = FragmentationMap {
             count: n,

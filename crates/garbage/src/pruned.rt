@@ -4,9 +4,12 @@ ghost use Prim.Native.Nat.{ℕ, _+_, _<_, _≤_};
 ghost use Rattle.garbage.specs.Maps.{Columns, columnsOf, entriesOf};
 ghost use Rattle.garbage.specs.Columns.{Whole, keptIn, state, holds};
 ghost use Rattle.garbage.specs.Merges.{listedIn, keptOf, prunedOf, staleBytesOf};
-
 use crate::columns::write;
-use crate::map::{CountRefusal, FragmentationEntry, FragmentationMap, entry_at, well_formed};
+use crate::map::CountRefusal;
+use crate::map::FragmentationEntry;
+use crate::map::FragmentationMap;
+use crate::map::entry_at;
+use crate::map::well_formed;
 
 // MapFull: the map is malformed.
 pub enum PruneAnswer {

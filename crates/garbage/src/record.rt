@@ -1,10 +1,13 @@
 // A dropped record as a tree holds it: the encoded indirection, with its mark.
 ghost use mathlib.Core.Path.{_≡_};
 ghost use Rattle.garbage.specs.Records.{recordOf, read};
-
 use crate::dropped::Dropped;
-use crate::map::{Counted, CountRefusal, FragmentationMap, well_formed};
-use numbers::handle::{BlobIndirection, ReadIndirection};
+use crate::map::CountRefusal;
+use crate::map::Counted;
+use crate::map::FragmentationMap;
+use crate::map::well_formed;
+use numbers::handle::BlobIndirection;
+use numbers::handle::ReadIndirection;
 use numbers::leb128::NumberRefusal;
 
 // Why a record was not counted: a number of it could not be read, or the drop was refused.
@@ -53,9 +56,10 @@ impl FragmentationMap {
                         answer: RecordAnswer::Refused(RecordRefusal::Number(why)),
                         map: self,
                     },
-                    ReadIndirection::Indirection { indirection, used: _ } => {
-                        told(self.drop(indirection))
-                    }
+                    ReadIndirection::Indirection {
+                        indirection,
+                        used: _,
+                    } => { told(self.drop(indirection)) }
                 }
             } else {
                 RecordDropped {

@@ -7,10 +7,17 @@ ghost use mathlib.Core.List.{[]};
 ghost use Rattle.garbage.specs.Maps.{Columns, entriesOf};
 ghost use Rattle.garbage.specs.Columns.{Whole, Rising, state, holds, insteadOf};
 ghost use Rattle.garbage.specs.Stored.{entryBytes, entriesBytes, entryIn, entriesIn, insteadAll, storeAnswer, storeBytes, noneLoaded, someLoaded, loadOf};
-
-use crate::columns::{insert, place, write};
-use crate::map::{FragmentationEntry, FragmentationMap, entry_at, well_formed};
-use numbers::bytes::{get_u32, get_u64, put_u32, put_u64};
+use crate::columns::insert;
+use crate::columns::place;
+use crate::columns::write;
+use crate::map::FragmentationEntry;
+use crate::map::FragmentationMap;
+use crate::map::entry_at;
+use crate::map::well_formed;
+use numbers::bytes::get_u32;
+use numbers::bytes::get_u64;
+use numbers::bytes::put_u32;
+use numbers::bytes::put_u64;
 use numbers::cut::CutShort;
 
 pub enum StoreRefusal {

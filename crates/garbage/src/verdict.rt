@@ -1,8 +1,8 @@
 // What is judged of a file by the map and by what its writer reported: dead, and stale.
 ghost use mathlib.Core.Path.{_≡_};
 ghost use Rattle.garbage.specs.Verdicts.{deadOf, staleOf};
-
-use crate::map::{FragmentationMap, Lookup};
+use crate::map::FragmentationMap;
+use crate::map::Lookup;
 use crate::ratio::ratio;
 use frames::writer::Report;
 

@@ -5,6 +5,7 @@ ghost use Prim.Native.Nat.{_<_};
 ghost use lib.ListN.{length};
 ghost use Rattle.hash.specs.XXH3.{xxh3-128};
 use numbers::bytes::room;
+
 mod joined;
 mod long;
 mod medium;

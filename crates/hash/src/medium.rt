@@ -280,10 +280,7 @@ fn opening(s: &[u8]) -> Acc
     requires { ⌜ 128 < length (now s) ⌝ }
     ensures { λ r. ⌜ r ≡ avalancheBoth (forUp 4 (chunkOf128 (now (s .entry))) (accMedium (length (now (s .entry))))) ⌝ }
 {
-    stir(second_half(
-        first_half(start(s.len() as u64), s),
-        s,
-    ))
+    stir(second_half(first_half(start(s.len() as u64), s), s))
 }
 
 pub(crate) fn from_129_to_240(s: &[u8]) -> Hash128

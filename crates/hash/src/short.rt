@@ -39,10 +39,7 @@ fn combined(s: &[u8]) -> u32
     ensures { λ r. ⌜ r ≡ combinedOf (now (s .entry)) ⌝ }
 {
     let n = s.len();
-    byte32(s[n - 1])
-        | ((n as u32) << 8)
-        | (byte32(s[0]) << 16)
-        | (byte32(s[n >> 1]) << 24)
+    byte32(s[n - 1]) | ((n as u32) << 8) | (byte32(s[0]) << 16) | (byte32(s[n >> 1]) << 24)
 }
 
 fn from_1_to_3(s: &[u8]) -> Hash128
@@ -108,10 +105,7 @@ fn mix_9_to_16(x: u64, v: u64, n: u64) -> Hash128
 {
     let l = wrapping_add_u64(wrapping_mul(x, 0x9e37_79b1_85eb_ca87), (n - 1) << 54);
     let h = wrapping_add_u64(high_product(x, 0x9e37_79b1_85eb_ca87), (v >> 32) << 32);
-    end_9_to_16(
-        l,
-        wrapping_add_u64(h, (v % 0x1_0000_0000) * 0x85eb_ca77),
-    )
+    end_9_to_16(l, wrapping_add_u64(h, (v % 0x1_0000_0000) * 0x85eb_ca77))
 }
 
 fn from_9_to_16(s: &[u8]) -> Hash128

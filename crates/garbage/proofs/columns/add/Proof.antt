@@ -15,11 +15,6 @@ use Rattle.garbage.proofs.Fits.{fits-all}
 use Rattle.garbage.proofs.Slots.{place-in, too-big, updated, no-room, put-in, state-is}
 use Rattle.garbage.proofs.columns.add.Statement.{statement}
 use Rattle.garbage.proofs.columns.add.Tie as tie
-use Rattle.garbage.proofs.columns.add.Reads as reads
-use Rattle.garbage.proofs.columns.add.Lts as lts
-use Rattle.garbage.proofs.columns.grow.Reads as grow-reads
-use Rattle.garbage.proofs.columns.insert.Reads as insert-reads
-use Rattle.garbage.proofs.columns.place.Reads as place-reads
 
 place-requires : tie.Need-place-requires
 place-requires c κs = search needs

@@ -11,8 +11,6 @@ use Rattle.garbage.specs.Entries.{Entry}
 use Rattle.garbage.proofs.Fits.{no-frames, no-stated, no-disk, all-fit}
 use Rattle.garbage.proofs.columns.grow.Statement.{statement}
 use Rattle.garbage.proofs.columns.grow.Tie as tie
-use Rattle.garbage.proofs.columns.grow.Reads as reads
-use Rattle.garbage.proofs.columns.grow.Lts as lts
 
 mul-f : tie.Need-mul-f
 mul-f c = search needs

@@ -12,12 +12,6 @@ use Rattle.garbage.proofs.Sound.{cols, many, order}
 use Rattle.garbage.proofs.Dropping.{read-done, read-full, read-big, refused-drop, taken-drop}
 use Rattle.garbage.proofs.dropped.drop_into.Statement.{statement}
 use Rattle.garbage.proofs.dropped.drop_into.Tie as tie
-use Rattle.garbage.proofs.dropped.drop_into.Reads as reads
-use Rattle.garbage.proofs.dropped.drop_into.Lts as lts
-use Rattle.garbage.proofs.columns.add.Reads as add-reads
-use Rattle.garbage.proofs.columns.ascending.Reads as ascending-reads
-use Rattle.garbage.proofs.dropped.one_of.Reads as one-of-reads
-use Rattle.garbage.proofs.dropped.told.Reads as told-reads
 
 abbrev col : tie.Start → Columns
 col a = cols (a .args .ids .now) (a .args .frames .now) (a .args .stated .now) (a .args .disk .now)

@@ -43,10 +43,10 @@ returns : tie.Need-returns
 returns c = record {
   whole = whole c;
   fit = λ n h. fit-rows (col c) (whole c)
-  (below w32 (c .args .frames) (c .good .1 .0 .0) (c .good .1 .0 .1 .1))
-  (below w64 (c .args .stated) (c .good .1 .1 .0 .0) (c .good .1 .1 .0 .1 .1))
-  (below w64 (c .args .disk) (c .good .1 .1 .1 .0 .0) (c .good .1 .1 .1 .0 .1 .1))
-  0 n (omega arith);
+      (below w32 (c .args .frames) (c .good .1 .0 .0) (c .good .1 .0 .1 .1))
+      (below w64 (c .args .stated) (c .good .1 .1 .0 .0) (c .good .1 .1 .0 .1 .1))
+      (below w64 (c .args .disk) (c .good .1 .1 .1 .0 .0) (c .good .1 .1 .1 .0 .1 .1))
+      0 n (omega arith);
 }
 
 pub told-spec : {M : Type 1} → statement M

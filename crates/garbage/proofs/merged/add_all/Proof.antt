@@ -9,10 +9,6 @@ use Rattle.garbage.proofs.Sound.{cols}
 use Rattle.garbage.proofs.Turning.{fold-more, fold-none}
 use Rattle.garbage.proofs.merged.add_all.Statement.{statement}
 use Rattle.garbage.proofs.merged.add_all.Tie as tie
-use Rattle.garbage.proofs.merged.add_all.Reads as reads
-use Rattle.garbage.proofs.merged.add_all.Lts as lts
-use Rattle.garbage.proofs.map.entry_at.Reads as entry-at-reads
-use Rattle.garbage.proofs.merged.turn.Reads as turn-reads
 
 abbrev Inv-loop : tie.InvT-loop
 Inv-loop source count ids₀ frames₀ stated₀ disk₀ n₀ i₀ ids frames stated disk n i =
@@ -44,9 +40,11 @@ loop-less c = omega arith
 loop-again : tie.Need-loop-again Inv-loop μ-loop
 loop-again c =
     let a : tie.Start Inv-loop μ-loop = c .before .before .before .before .before .before .before .before .before in
-    let l = c .before .before .before .before .before .before .before .before .loop in
-    (omega arith, c .turn .ensures .fine,
-    fold-more (state (a .args .count) (col a)) (state (l .n) (cols (l .ids) (l .frames) (l .stated) (l .disk))) _ (columnsOf (a .args .source)) (l .i) (c .before .entry-at .result) (c .before .entry-at .ensures) (l .inv .2) (c .turn .ensures .is))
+    let l = c .before .before .before .before .before .before .before .before .loop in (
+      omega arith,
+      c .turn .ensures .fine,
+      fold-more (state (a .args .count) (col a)) (state (l .n) (cols (l .ids) (l .frames) (l .stated) (l .disk))) _ (columnsOf (a .args .source)) (l .i) (c .before .entry-at .result) (c .before .entry-at .ensures) (l .inv .2) (c .turn .ensures .is),
+    )
 
 returns : tie.Need-returns Inv-loop μ-loop
 returns c =

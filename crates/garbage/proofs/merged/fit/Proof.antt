@@ -6,8 +6,6 @@ use Rattle.garbage.specs.Entries.{Entry}
 use Rattle.garbage.proofs.Fits.{no-frames, no-stated, no-disk, all-fit}
 use Rattle.garbage.proofs.merged.fit.Statement.{statement}
 use Rattle.garbage.proofs.merged.fit.Tie as tie
-use Rattle.garbage.proofs.merged.fit.Reads as reads
-use Rattle.garbage.proofs.merged.fit.Lts as lts
 
 abbrev at : tie.Start → Entry
 at p = record { id = p .args .e .id; frames = p .args .frames; stated = p .args .stated; disk = p .args .disk }

@@ -15,10 +15,6 @@ use Rattle.garbage.proofs.Summing.{total-is, orNothing, fits-same}
 use borrow.Author.Needs.{needs}
 use Rattle.garbage.proofs.merged.fits_on.Statement.{statement}
 use Rattle.garbage.proofs.merged.fits_on.Tie as tie
-use Rattle.garbage.proofs.merged.fits_on.Reads as reads
-use Rattle.garbage.proofs.merged.fits_on.Lts as lts
-use Rattle.garbage.proofs.columns.place.Reads as place-reads
-use Rattle.garbage.proofs.merged.fit.Reads as fit-reads
 
 module _ (n : ℕ) (c : Columns) (r : Ready n c) (e : Entry) (i : ℕ) (pr : i ≡ placeIn (e .id) (take n (c .ids))) where
   there : i < n → getD (c .ids) i 0 ≡ e .id → fits (plus (entryAt c i) e) ≡ fits (plus (totalOf (e .id) (rows c 0 n)) e)

@@ -18,10 +18,6 @@ use Rattle.garbage.proofs.Summing.{sums-are, turns-judged}
 use borrow.Author.Needs.{needs}
 use Rattle.garbage.proofs.merged.merge_columns.Statement.{statement}
 use Rattle.garbage.proofs.merged.merge_columns.Tie as tie
-use Rattle.garbage.proofs.merged.merge_columns.Reads as reads
-use Rattle.garbage.proofs.merged.merge_columns.Lts as lts
-use Rattle.garbage.proofs.merged.add_all.Reads as add-all-reads
-use Rattle.garbage.proofs.merged.sums_fit.Reads as sums-fit-reads
 
 module _ (n : ℕ) (a b x y : List ℕ) (r : Ready n (cols a b x y)) (es : List Entry) (t : ascendingFrom 0 es ≡ true) where
   abbrev c : Columns

@@ -20,12 +20,6 @@ use Rattle.garbage.proofs.Sound.{well-few, well-rising, well-ascending}
 use borrow.Author.Needs.{needs}
 use Rattle.garbage.proofs.merged.merge_sound.Statement.{statement}
 use Rattle.garbage.proofs.merged.merge_sound.Tie as tie
-use Rattle.garbage.proofs.merged.merge_sound.Reads as reads
-use Rattle.garbage.proofs.merged.merge_sound.Lts as lts
-use Rattle.garbage.proofs.dropped.told.Reads as told-reads
-use Rattle.garbage.proofs.map.FragmentationMap.new.Reads as new-reads
-use Rattle.garbage.proofs.merged.merge_columns.Reads as merge-columns-reads
-use Rattle.garbage.proofs.merged.same.Reads as same-reads
 
 module _ (s t : FragmentationMap) (r : ℕ) (d : Columns) (l : List Entry) (e : settled (columnsOf t) (state r d) ≡ coded (columnsOf t) (judged l)) where
   abbrev c : Columns

@@ -11,10 +11,6 @@ use Rattle.garbage.specs.Columns.{totalOf, sumsFit}
 use Rattle.garbage.proofs.Holding.{rows-open, rows-out}
 use Rattle.garbage.proofs.merged.sums_fit.Statement.{statement}
 use Rattle.garbage.proofs.merged.sums_fit.Tie as tie
-use Rattle.garbage.proofs.merged.sums_fit.Reads as reads
-use Rattle.garbage.proofs.merged.sums_fit.Lts as lts
-use Rattle.garbage.proofs.merged.fits_on.Reads as fits-on-reads
-use Rattle.garbage.proofs.map.entry_at.Reads as entry-at-reads
 
 abbrev Inv-loop : tie.InvT-loop
 Inv-loop source n ids frames stated disk i₀ i =
@@ -61,10 +57,11 @@ loop-again : tie.Need-loop-again Inv-loop μ-loop
 loop-again c =
     let a : tie.Start Inv-loop μ-loop = c .before .before .before .before .before .before in
     let m = a .args .source in
-    let i = c .before .before .before .before .before .loop .i in
-    (omega arith,
-    sym (front (columnsOf m) (m .count) i (held a) (c .before .before .entry-at .result) (c .before .fits-on .result) (c .before .before .before .if1 .taken) (c .before .before .entry-at .ensures) (c .before .fits-on .ensures) ∙ ap (λ (b : Bool). b && sumsFit (rows (columnsOf m) (i + 1) (m .count - (i + 1))) (held a)) (c .if2 .taken))
-    ∙ c .before .before .before .before .before .loop .inv .1)
+    let i = c .before .before .before .before .before .loop .i in (
+      omega arith,
+      sym (front (columnsOf m) (m .count) i (held a) (c .before .before .entry-at .result) (c .before .fits-on .result) (c .before .before .before .if1 .taken) (c .before .before .entry-at .ensures) (c .before .fits-on .ensures) ∙ ap (λ (b : Bool). b && sumsFit (rows (columnsOf m) (i + 1) (m .count - (i + 1))) (held a)) (c .if2 .taken))
+          ∙ c .before .before .before .before .before .loop .inv .1,
+    )
 
 returns : tie.Need-returns Inv-loop μ-loop
 returns c =

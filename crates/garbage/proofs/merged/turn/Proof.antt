@@ -5,9 +5,6 @@ use Rattle.garbage.specs.Maps.{Columns}
 use Rattle.garbage.proofs.Turning.{idle, turned}
 use Rattle.garbage.proofs.merged.turn.Statement.{statement}
 use Rattle.garbage.proofs.merged.turn.Tie as tie
-use Rattle.garbage.proofs.merged.turn.Reads as reads
-use Rattle.garbage.proofs.merged.turn.Lts as lts
-use Rattle.garbage.proofs.columns.add.Reads as add-reads
 
 abbrev col : tie.Start → Columns
 col a = record { ids = a .args .ids .now; frames = a .args .frames .now; stated = a .args .stated .now; disk = a .args .disk .now }

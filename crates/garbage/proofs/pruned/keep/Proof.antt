@@ -9,10 +9,6 @@ use Rattle.garbage.proofs.Sound.{cols}
 use borrow.Author.Needs.{needs}
 use Rattle.garbage.proofs.pruned.keep.Statement.{statement}
 use Rattle.garbage.proofs.pruned.keep.Tie as tie
-use Rattle.garbage.proofs.pruned.keep.Reads as reads
-use Rattle.garbage.proofs.pruned.keep.Lts as lts
-use Rattle.garbage.proofs.columns.write.Reads as write-reads
-use Rattle.garbage.proofs.pruned.listed.Reads as listed-reads
 
 kept : (b v : Bool) (n : ℕ) (c d : Columns) (e : Entry) → v ≡ b → v ≡ true → d ≡ written n c e → state (n + 1) d ≡ keptIn b (state n c) e
 kept b v n c d e p q r = ap (state (n + 1)) r ∙ ap (λ (x : Bool). keptIn x (state n c) e) (sym q ∙ p)

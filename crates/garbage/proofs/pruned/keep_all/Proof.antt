@@ -10,10 +10,6 @@ use Rattle.garbage.proofs.Sound.{cols}
 use Rattle.garbage.proofs.Pruning.{keep-none, room-left, keep-more}
 use Rattle.garbage.proofs.pruned.keep_all.Statement.{statement}
 use Rattle.garbage.proofs.pruned.keep_all.Tie as tie
-use Rattle.garbage.proofs.pruned.keep_all.Reads as reads
-use Rattle.garbage.proofs.pruned.keep_all.Lts as lts
-use Rattle.garbage.proofs.map.entry_at.Reads as entry-at-reads
-use Rattle.garbage.proofs.pruned.keep.Reads as keep-reads
 
 abbrev Inv-loop : tie.InvT-loop
 Inv-loop m listing ids₀ frames₀ stated₀ disk₀ n₀ i₀ ids frames stated disk n i =

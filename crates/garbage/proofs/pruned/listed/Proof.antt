@@ -12,8 +12,6 @@ use borrow.Author.Tests.{eq-eqb, ne-eqb}
 use Rattle.garbage.specs.Merges.{listedIn}
 use Rattle.garbage.proofs.pruned.listed.Statement.{statement}
 use Rattle.garbage.proofs.pruned.listed.Tie as tie
-use Rattle.garbage.proofs.pruned.listed.Reads as reads
-use Rattle.garbage.proofs.pruned.listed.Lts as lts
 
 module _ (ids : List ℕ) (id i : ℕ) where
   front : i < length ids → listedIn id (drop i ids) ≡ (eqb (getD ids i 0) id || listedIn id (drop (i + 1) ids))

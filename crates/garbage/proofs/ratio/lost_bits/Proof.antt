@@ -1,10 +1,9 @@
+-- The leading zeros and the digits make 64.
 use native.Mathlib.Omega.{arith}
 use Rattle.garbage.proofs.Round.{zeros-size}
 use borrow.Author.Needs.{needs}
 use Rattle.garbage.proofs.ratio.lost_bits.Statement.{statement}
 use Rattle.garbage.proofs.ratio.lost_bits.Tie as tie
-use Rattle.garbage.proofs.ratio.lost_bits.Reads as reads
-use Rattle.garbage.proofs.ratio.lost_bits.Lts as lts
 
 sub-result : tie.Need-sub-result
 sub-result c = search needs

@@ -1,3 +1,4 @@
+-- A power of two up to 2^24 is a float as it stands.
 use native.Mathlib.Omega.{arith}
 use mathlib.Core.Path.{_≡_, _∙_, ap, subst, sym}
 use Prim.Native.Nat.{ℕ, _^_}
@@ -9,8 +10,6 @@ use Rattle.garbage.proofs.Round.{bit-at, in-float}
 use borrow.Author.Needs.{needs}
 use Rattle.garbage.proofs.ratio.power.Statement.{statement}
 use Rattle.garbage.proofs.ratio.power.Tie as tie
-use Rattle.garbage.proofs.ratio.power.Reads as reads
-use Rattle.garbage.proofs.ratio.power.Lts as lts
 
 shl-u : tie.Need-shl-u
 shl-u c = search needs

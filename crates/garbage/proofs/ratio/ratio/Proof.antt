@@ -1,11 +1,9 @@
+-- One division of the two roundings.
 use mathlib.Core.Path.{_≡_, ap₂}
 use lib.Ieee.{Float, binary32, div}
 use borrow.Author.Needs.{needs}
 use Rattle.garbage.proofs.ratio.ratio.Statement.{statement}
 use Rattle.garbage.proofs.ratio.ratio.Tie as tie
-use Rattle.garbage.proofs.ratio.ratio.Reads as reads
-use Rattle.garbage.proofs.ratio.ratio.Lts as lts
-use Rattle.garbage.proofs.ratio.to_f32.Reads as to-f32-reads
 
 to-f32-requires : tie.Need-to-f32-requires
 to-f32-requires c κs = search needs

@@ -1,3 +1,4 @@
+-- The bits lost, then the rounding at that many.
 use native.Mathlib.Omega.{arith}
 use mathlib.Core.Path.{_≡_, _∙_, ap, ap₂}
 use Prim.Native.Nat.{ℕ}
@@ -7,10 +8,6 @@ use Rattle.garbage.proofs.Round.{lost-le}
 use borrow.Author.Needs.{needs}
 use Rattle.garbage.proofs.ratio.round24.Statement.{statement}
 use Rattle.garbage.proofs.ratio.round24.Tie as tie
-use Rattle.garbage.proofs.ratio.round24.Reads as reads
-use Rattle.garbage.proofs.ratio.round24.Lts as lts
-use Rattle.garbage.proofs.ratio.lost_bits.Reads as lost-bits-reads
-use Rattle.garbage.proofs.ratio.round_at.Reads as round-at-reads
 
 lost-bits-requires : tie.Need-lost-bits-requires
 lost-bits-requires c κs = search needs

@@ -1,3 +1,4 @@
+-- Below half a unit down, at half to the even one, above it up.
 use lib.Arith.{lt-of-le-ne}
 use mathlib.Core.Path.{sym}
 use Prim.Native.Nat.{_*_, _%_, _^_, _<_}
@@ -8,8 +9,6 @@ use Rattle.garbage.proofs.Round.{bit-at, down-is, tie-is, up-is, one-mo
 use borrow.Author.Needs.{needs}
 use Rattle.garbage.proofs.ratio.round_at.Statement.{statement}
 use Rattle.garbage.proofs.ratio.round_at.Tie as tie
-use Rattle.garbage.proofs.ratio.round_at.Reads as reads
-use Rattle.garbage.proofs.ratio.round_at.Lts as lts
 
 shl-u : tie.Need-shl-u
 shl-u c = search needs

@@ -1,3 +1,4 @@
+-- The rounded mantissa, cast and scaled by two exact products, is the number rounded.
 use native.Mathlib.Omega.{arith}
 use mathlib.Core.Path.{_≡_, _∙_, ap, ap₂, subst, sym}
 use Prim.Native.Nat.{ℕ, _≤_, _/_, _-_, _^_}
@@ -11,10 +12,6 @@ use Rattle.garbage.proofs.Scaled.{scaled}
 use borrow.Author.Needs.{needs}
 use Rattle.garbage.proofs.ratio.to_f32.Statement.{statement}
 use Rattle.garbage.proofs.ratio.to_f32.Tie as tie
-use Rattle.garbage.proofs.ratio.to_f32.Reads as reads
-use Rattle.garbage.proofs.ratio.to_f32.Lts as lts
-use Rattle.garbage.proofs.ratio.power.Reads as power-reads
-use Rattle.garbage.proofs.ratio.round24.Reads as round24-reads
 
 round24-requires : tie.Need-round24-requires
 round24-requires c κs = search needs

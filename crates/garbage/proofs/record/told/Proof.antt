@@ -7,8 +7,6 @@ use Rattle.garbage.specs.Records.{answerOf}
 use borrow.Author.Needs.{needs}
 use Rattle.garbage.proofs.record.told.Statement.{statement}
 use Rattle.garbage.proofs.record.told.Tie as tie
-use Rattle.garbage.proofs.record.told.Reads as reads
-use Rattle.garbage.proofs.record.told.Lts as lts
 
 read-as : (m : FragmentationMap) (a v : Counted) → a ≡ v → _≡_ {A = RecordDropped} (record { answer = answerOf v; map = m }) (record { answer = answerOf a; map = m })
 read-as m a v e = ap (λ (x : Counted). record { answer = answerOf x; map = m }) (sym e)

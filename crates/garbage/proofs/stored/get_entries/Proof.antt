@@ -12,10 +12,6 @@ use Rattle.garbage.proofs.Sound.{cols}
 use Rattle.garbage.proofs.Storing.{get-none, get-rising, get-more, read}
 use Rattle.garbage.proofs.stored.get_entries.Statement.{statement}
 use Rattle.garbage.proofs.stored.get_entries.Tie as tie
-use Rattle.garbage.proofs.stored.get_entries.Reads as reads
-use Rattle.garbage.proofs.stored.get_entries.Lts as lts
-use Rattle.garbage.proofs.stored.get_entry.Reads as get-entry-reads
-use Rattle.garbage.proofs.stored.put_instead.Reads as put-instead-reads
 
 abbrev Inv-loop : tie.InvT-loop
 Inv-loop s k ids₀ frames₀ stated₀ disk₀ n₀ i₀ ids frames stated disk n i =

@@ -10,10 +10,6 @@ use Rattle.garbage.specs.Entries.{Entry}
 use Rattle.garbage.specs.Stored.{entryIn}
 use Rattle.garbage.proofs.stored.get_entry.Statement.{statement}
 use Rattle.garbage.proofs.stored.get_entry.Tie as tie
-use Rattle.garbage.proofs.stored.get_entry.Reads as reads
-use Rattle.garbage.proofs.stored.get_entry.Lts as lts
-use Rattle.numbers.proofs.bytes.get_u32.Reads as get-u32-reads
-use Rattle.numbers.proofs.bytes.get_u64.Reads as get-u64-reads
 
 get-u64-requires : tie.Need-get-u64-requires
 get-u64-requires c κs = search needs

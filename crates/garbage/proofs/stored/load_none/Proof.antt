@@ -6,9 +6,6 @@ use Rattle.garbage.specs.declared.stored.Loaded.{Loaded}
 use borrow.Author.Needs.{needs}
 use Rattle.garbage.proofs.stored.load_none.Statement.{statement}
 use Rattle.garbage.proofs.stored.load_none.Tie as tie
-use Rattle.garbage.proofs.stored.load_none.Reads as reads
-use Rattle.garbage.proofs.stored.load_none.Lts as lts
-use Rattle.garbage.proofs.map.FragmentationMap.new.Reads as new-reads
 
 new-requires : tie.Need-new-requires
 new-requires c κs = search needs

@@ -8,9 +8,6 @@ use Prim.Native.Nat.{ℕ, _+_, _*_}
 use borrow.Author.Needs.{needs}
 use Rattle.garbage.proofs.stored.load_some.Statement.{statement}
 use Rattle.garbage.proofs.stored.load_some.Tie as tie
-use Rattle.garbage.proofs.stored.load_some.Reads as reads
-use Rattle.garbage.proofs.stored.load_some.Lts as lts
-use Rattle.garbage.proofs.stored.get_entries.Reads as get-entries-reads
 
 get-entries-requires : tie.Need-get-entries-requires
 get-entries-requires c κs = search needs

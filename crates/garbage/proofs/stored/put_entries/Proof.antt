@@ -11,10 +11,6 @@ use Rattle.garbage.specs.Stored.{entriesBytes}
 use Rattle.garbage.proofs.Storing.{put-more, put-none}
 use Rattle.garbage.proofs.stored.put_entries.Statement.{statement}
 use Rattle.garbage.proofs.stored.put_entries.Tie as tie
-use Rattle.garbage.proofs.stored.put_entries.Reads as reads
-use Rattle.garbage.proofs.stored.put_entries.Lts as lts
-use Rattle.garbage.proofs.map.entry_at.Reads as entry-at-reads
-use Rattle.garbage.proofs.stored.put_entry.Reads as put-entry-reads
 
 as-long : (b₀ b v : List ℕ) → b ≡ sets b₀ 4 v → length b ≡ length b₀
 as-long b₀ b v p = ap length p ∙ length-sets b₀ 4 v

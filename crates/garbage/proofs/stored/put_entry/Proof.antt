@@ -12,10 +12,6 @@ use Rattle.garbage.specs.Entries.{Entry}
 use Rattle.garbage.specs.Stored.{entryBytes}
 use Rattle.garbage.proofs.stored.put_entry.Statement.{statement}
 use Rattle.garbage.proofs.stored.put_entry.Tie as tie
-use Rattle.garbage.proofs.stored.put_entry.Reads as reads
-use Rattle.garbage.proofs.stored.put_entry.Lts as lts
-use Rattle.numbers.proofs.bytes.put_u32.Reads as put-u32-reads
-use Rattle.numbers.proofs.bytes.put_u64.Reads as put-u64-reads
 
 put-u64-requires : tie.Need-put-u64-requires
 put-u64-requires c κs = search needs

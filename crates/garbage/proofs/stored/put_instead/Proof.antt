@@ -10,11 +10,6 @@ use Rattle.garbage.proofs.Slots.{place-in, replaced, put-new, state-is}
 use borrow.Author.Needs.{needs}
 use Rattle.garbage.proofs.stored.put_instead.Statement.{statement}
 use Rattle.garbage.proofs.stored.put_instead.Tie as tie
-use Rattle.garbage.proofs.stored.put_instead.Reads as reads
-use Rattle.garbage.proofs.stored.put_instead.Lts as lts
-use Rattle.garbage.proofs.columns.insert.Reads as insert-reads
-use Rattle.garbage.proofs.columns.place.Reads as place-reads
-use Rattle.garbage.proofs.columns.write.Reads as write-reads
 
 abbrev col : tie.Start → Columns
 col a = record { ids = a .args .ids .now; frames = a .args .frames .now; stated = a .args .stated .now; disk = a .args .disk .now }

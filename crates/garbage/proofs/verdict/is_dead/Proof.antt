@@ -12,8 +12,6 @@ use Rattle.garbage.specs.Entries.{Entry}
 use Rattle.garbage.specs.Verdicts.{deadBy}
 use Rattle.garbage.proofs.verdict.is_dead.Statement.{statement}
 use Rattle.garbage.proofs.verdict.is_dead.Tie as tie
-use Rattle.garbage.proofs.verdict.is_dead.Reads as reads
-use Rattle.garbage.proofs.verdict.is_dead.Lts as lts
 
 module _ (total : ℕ) (l r : Lookup) (e : l ≡ r) where
   same : (v : Lookup) (d : DeadVerdict) → l ≡ v → d ≡ deadBy v total → d ≡ deadBy r total

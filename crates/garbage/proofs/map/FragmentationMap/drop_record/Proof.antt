@@ -18,12 +18,6 @@ use Rattle.garbage.specs.Records.{read, decoded, recordOf}
 use borrow.Author.Needs.{needs}
 use Rattle.garbage.proofs.map.FragmentationMap.drop_record.Statement.{statement}
 use Rattle.garbage.proofs.map.FragmentationMap.drop_record.Tie as tie
-use Rattle.garbage.proofs.map.FragmentationMap.drop_record.Reads as reads
-use Rattle.garbage.proofs.map.FragmentationMap.drop_record.Lts as lts
-use Rattle.garbage.proofs.map.FragmentationMap.drop.Reads as drop-reads
-use Rattle.garbage.proofs.map.well_formed.Reads as well-formed-reads
-use Rattle.garbage.proofs.record.told.Reads as told-reads
-use Rattle.numbers.proofs.handle.BlobIndirection.decode.Reads as decode-reads
 
 module _ (m : FragmentationMap) (b : Bool) (s : List ℕ) where
   malformed : wellFormed m ≡ false → record { answer = answer.Refused (Count MapFull); map = m } ≡ recordOf m b s

@@ -13,11 +13,6 @@ use Rattle.garbage.specs.Stored.{noneLoaded, someLoaded, loadOf}
 use borrow.Author.Needs.{needs}
 use Rattle.garbage.proofs.map.FragmentationMap.load.Statement.{statement}
 use Rattle.garbage.proofs.map.FragmentationMap.load.Tie as tie
-use Rattle.garbage.proofs.map.FragmentationMap.load.Reads as reads
-use Rattle.garbage.proofs.map.FragmentationMap.load.Lts as lts
-use Rattle.garbage.proofs.stored.load_none.Reads as load-none-reads
-use Rattle.garbage.proofs.stored.load_some.Reads as load-some-reads
-use Rattle.numbers.proofs.bytes.get_u32.Reads as get-u32-reads
 
 no-count : (s : List ℕ) → length s < 4 → noneLoaded (CutShort (record { at = 0; needed = 4; present = length s })) ≡ loadOf s
 unfolding loadOf pick

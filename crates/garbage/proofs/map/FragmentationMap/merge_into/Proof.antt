@@ -13,11 +13,6 @@ use Rattle.garbage.specs.Merges.{mergeAnswered, mergedOf}
 use borrow.Author.Needs.{needs}
 use Rattle.garbage.proofs.map.FragmentationMap.merge_into.Statement.{statement}
 use Rattle.garbage.proofs.map.FragmentationMap.merge_into.Tie as tie
-use Rattle.garbage.proofs.map.FragmentationMap.merge_into.Reads as reads
-use Rattle.garbage.proofs.map.FragmentationMap.merge_into.Lts as lts
-use Rattle.garbage.proofs.map.well_formed.Reads as well-formed-reads
-use Rattle.garbage.proofs.merged.merge_sound.Reads as merge-sound-reads
-use Rattle.garbage.proofs.merged.same.Reads as same-reads
 
 sound : (s t : FragmentationMap) → wellFormed s ≡ true → wellFormed t ≡ true → mergeAnswered s t (judged (addedAll (entriesOf s) (entriesOf t))) ≡ mergedOf s t
 unfolding pick

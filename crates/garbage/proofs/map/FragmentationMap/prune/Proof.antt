@@ -14,8 +14,6 @@ use Rattle.garbage.specs.Columns.{Whole, State, state, holds}
 use Rattle.garbage.proofs.Sound.{well-few}
 use Rattle.garbage.proofs.map.FragmentationMap.prune.Statement.{statement}
 use Rattle.garbage.proofs.map.FragmentationMap.prune.Tie as tie
-use Rattle.garbage.proofs.map.FragmentationMap.prune.Reads as reads
-use Rattle.garbage.proofs.map.FragmentationMap.prune.Lts as lts
 
 module _ (m : FragmentationMap) (ids : List ℕ) where
   kept : wellFormed m ≡ true → (r : ℕ) (d : Columns) → state r d ≡ holds (columnsOf m) (keptOf ids (entriesOf m)) → record { answer = Done; map = mapOf r d } ≡ prunedOf m ids

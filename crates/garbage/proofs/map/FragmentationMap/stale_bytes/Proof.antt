@@ -18,9 +18,6 @@ use Rattle.garbage.proofs.Sound.{well-few}
 use Rattle.garbage.proofs.Pruning.{only, sum-only, sum-open, sum-out}
 use Rattle.garbage.proofs.map.FragmentationMap.stale_bytes.Statement.{statement}
 use Rattle.garbage.proofs.map.FragmentationMap.stale_bytes.Tie as tie
-use Rattle.garbage.proofs.map.FragmentationMap.stale_bytes.Reads as reads
-use Rattle.garbage.proofs.map.FragmentationMap.stale_bytes.Lts as lts
-use Rattle.garbage.proofs.map.well_formed.Reads as well-formed-reads
 
 module _ (m : FragmentationMap) where
   malformed : wellFormed m ≡ false → Refused MapFull ≡ staleBytesOf m

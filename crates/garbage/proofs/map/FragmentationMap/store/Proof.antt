@@ -20,11 +20,6 @@ use Rattle.garbage.proofs.Storing.{length-stored}
 use borrow.Author.Needs.{needs}
 use Rattle.garbage.proofs.map.FragmentationMap.store.Statement.{statement}
 use Rattle.garbage.proofs.map.FragmentationMap.store.Tie as tie
-use Rattle.garbage.proofs.map.FragmentationMap.store.Reads as reads
-use Rattle.garbage.proofs.map.FragmentationMap.store.Lts as lts
-use Rattle.garbage.proofs.map.well_formed.Reads as well-formed-reads
-use Rattle.garbage.proofs.stored.put_entries.Reads as put-entries-reads
-use Rattle.numbers.proofs.bytes.put_u32.Reads as put-u32-reads
 
 module _ (m : FragmentationMap) (b : List ℕ) where
   malformed : wellFormed m ≡ false → (Refused MapFull ≡ storeAnswer m b) × (b ≡ storeBytes m b)
@@ -41,9 +36,10 @@ module _ (m : FragmentationMap) (b : List ℕ) where
     laid : (b₁ b₂ : List ℕ) → 4 + 28 * m .count ≤ length b → b₁ ≡ sets b 0 (le 4 (m .count)) → b₂ ≡ sets b₁ 4 (entriesBytes (entriesOf m)) → (Used (4 + 28 * m .count) ≡ storeAnswer m b) × (b₂ ≡ storeBytes m b)
     unfolding storeAnswer storeBytes storedForm pick
     laid b₁ b₂ q p r =
-        let k : length (storedForm m) ≤ length b = omega (arith, length-stored m) in
-        (ap Used (sym (length-stored m)) ∙ sym (rw (h, le-leb (length (storedForm m)) (length b) k)),
-        sets-then b b₁ b₂ (le 4 (m .count)) (entriesBytes (entriesOf m)) 0 4 p r (omega (arith, length-le 4 (m .count))) ∙ sym (rw (h, le-leb (length (storedForm m)) (length b) k)))
+        let k : length (storedForm m) ≤ length b = omega (arith, length-stored m) in (
+          ap Used (sym (length-stored m)) ∙ sym (rw (h, le-leb (length (storedForm m)) (length b) k)),
+          sets-then b b₁ b₂ (le 4 (m .count)) (entriesBytes (entriesOf m)) 0 4 p r (omega (arith, length-le 4 (m .count))) ∙ sym (rw (h, le-leb (length (storedForm m)) (length b) k)),
+        )
 
 -- what is known once the map is seen to be well formed
 well : (s : tie.Then1) → wellFormed (s .before .before .before .args .self) ≡ true
