@@ -1,0 +1,49 @@
+# Shared by the scripts here: where things are, and plain words for what is missing. Exit 3 says that something is.
+here=$(cd "$(dirname "$0")" && pwd)
+top=$(dirname "$here")
+made=${ORACLE_TARGET:-$top/target/oracle}
+ORIGINALS=${ORIGINALS:-$here/../../shared/docs/src}
+install=no
+export DEBIAN_FRONTEND=noninteractive
+
+missing() {
+    echo "oracle: $*" >&2
+    exit 3
+}
+
+# package FILE-PATTERN DEBIAN-PACKAGE: the pattern has a match, else the package is installed (--install, as root) or named
+package() {
+    for found in $1; do [ ! -e "$found" ] || return 0; done
+    if [ "$install" = yes ] && [ "$(id -u)" = 0 ] && command -v apt-get >/dev/null; then
+        take="apt-get install -y -q $2"
+        { $take || { apt-get update -q && $take; }; } >/dev/null 2>&1 ||
+            missing "Debian's package $2 could not be installed"
+        for found in $1; do [ ! -e "$found" ] || return 0; done
+    fi
+    missing "Debian's package $2 is not here (as root: apt-get install $2, or run with --install)"
+}
+
+# build: the workspace, from the originals' folder
+build() {
+    command -v cargo >/dev/null || missing "no Rust compiler is here (cargo, rustc 1.87 or newer)"
+    minor=$(rustc --version | sed -n 's/^rustc 1\.\([0-9]*\)\..*/\1/p')
+    [ "${minor:-87}" -ge 87 ] || missing "$(rustc --version) is too old: 1.87 or newer is needed"
+    [ -f "$ORIGINALS/src/vlog/blob_file/writer.rs" ] ||
+        missing "the original Rust files are not in $ORIGINALS (set ORIGINALS to the folder that has src/)"
+    registry=/usr/share/cargo/registry
+    package "$registry/xxhash-rust-*" librust-xxhash-rust-dev
+    package "$registry/byteorder-*" librust-byteorder-dev
+    package "$registry/log-*" librust-log-dev
+    package "$registry/tempfile-*" librust-tempfile-dev
+    ORIGINALS=$(cd "$ORIGINALS" && pwd)
+    export ORIGINALS
+    (cd "$here" && CARGO_TARGET_DIR=$made cargo build --release --offline --quiet) ||
+        missing "the comparison could not be built (above: why)"
+}
+
+# calls: the program over the Rattle crates
+calls() {
+    CALLS=${CALLS:-$top/target/bin/calls}
+    [ -x "$CALLS" ] || missing "the calls program is not at $CALLS (build it first, or set CALLS to it)"
+    export CALLS
+}
