@@ -1,0 +1,4 @@
+// The calls that a program in another language makes: numbers, byte slices and lent rows of numbers.
+mod frame;
+mod merged;
+mod sum;
