@@ -1,7 +1,7 @@
 //! The archive's functions: a slice is a pointer, then a length.
 
 extern "C" {
-    fn pd_hash(s: *const u8, n: usize, out: *mut [u64; 2]);
+    fn pd_hash(s: *const u8, n: usize, high: *mut u64) -> u64;
     fn pd_append(
         row: *mut [u64; 11],
         buf: *mut u8,
@@ -33,12 +33,40 @@ extern "C" {
         rows: *mut u64,
         r: usize,
     ) -> u64;
+    fn pd_drop(
+        count: *mut usize,
+        ids: *mut [u64; 64],
+        frames: *mut [u32; 64],
+        stated: *mut [u64; 64],
+        disk: *mut [u64; 64],
+        file: u64,
+        size: u32,
+        length: u32,
+    ) -> u64;
+    fn pd_store(
+        count: usize,
+        ids: *const [u64; 64],
+        frames: *const [u32; 64],
+        stated: *const [u64; 64],
+        disk: *const [u64; 64],
+        buf: *mut u8,
+        n: usize,
+    ) -> u64;
+    fn pd_load(
+        s: *const u8,
+        n: usize,
+        count: *mut usize,
+        ids: *mut [u64; 64],
+        frames: *mut [u32; 64],
+        stated: *mut [u64; 64],
+        disk: *mut [u64; 64],
+    ) -> u64;
 }
 
 pub fn hash(s: &[u8]) -> [u64; 2] {
-    let mut out = [0; 2];
-    unsafe { pd_hash(s.as_ptr(), s.len(), &mut out) };
-    out
+    let mut high = 0;
+    let low = unsafe { pd_hash(s.as_ptr(), s.len(), &mut high) };
+    [low, high]
 }
 
 pub const NEW_WRITER: [u64; 11] = [0, 0, 0, 0, 0, u64::MAX, 0, 0, 0, 0, 0];
@@ -83,4 +111,30 @@ pub fn rows(table: &Table, ats: &mut [u64; 16], image: &[u8], rows: &mut [u64]) 
     };
     assert!(said <= rows.len() as u64 / 9, "rows");
     said as usize
+}
+
+pub struct Map {
+    pub count: usize,
+    pub ids: [u64; 64],
+    pub frames: [u32; 64],
+    pub stated: [u64; 64],
+    pub disk: [u64; 64],
+}
+
+impl Default for Map {
+    fn default() -> Self {
+        Self { count: 0, ids: [0; 64], frames: [0; 64], stated: [0; 64], disk: [0; 64] }
+    }
+}
+
+pub fn drop(m: &mut Map, file: u64, size: u32, stated: u32) -> u64 {
+    unsafe { pd_drop(&mut m.count, &mut m.ids, &mut m.frames, &mut m.stated, &mut m.disk, file, size, stated) }
+}
+
+pub fn store(m: &Map, buf: &mut [u8]) -> u64 {
+    unsafe { pd_store(m.count, &m.ids, &m.frames, &m.stated, &m.disk, buf.as_mut_ptr(), buf.len()) }
+}
+
+pub fn load(s: &[u8], m: &mut Map) -> u64 {
+    unsafe { pd_load(s.as_ptr(), s.len(), &mut m.count, &mut m.ids, &mut m.frames, &mut m.stated, &mut m.disk) }
 }

@@ -5,6 +5,7 @@
 
 mod boundary;
 mod frames;
+mod garbage;
 mod hashes;
 mod merges;
 
@@ -30,6 +31,7 @@ fn plans() -> Vec<Plan> {
     let mut all = hashes::plans();
     all.extend(frames::plans());
     all.extend(merges::plans());
+    all.extend(garbage::plans());
     all
 }
 

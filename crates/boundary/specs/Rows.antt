@@ -4,7 +4,6 @@ use mathlib.Core.List.{List, [], _∷_}
 use mathlib.Core.Bool.{cond}
 use lib.Dec.{eqb}
 use lib.ListN.{getD}
-use Rattle.hash.specs.declared.Hash128.{Hash128}
 use Rattle.numbers.specs.declared.handle.ValueHandle.{ValueHandle}
 use Rattle.frames.specs.Numbers.{appendNumber, scanNumber}
 use Rattle.frames.specs.declared.place.Place.{Place}
@@ -13,10 +12,6 @@ use Rattle.frames.specs.declared.writer.Appended.{Appended}
 use Rattle.frames.specs.declared.writer.Appended.the-variants as appended
 use Rattle.frames.specs.declared.scanner.Scanned.{Scanned}
 use Rattle.frames.specs.declared.scanner.Scanned.the-variants as scanned
-
--- a sum's low half, then its high half
-abbrev pub sumRow : Hash128 → List ℕ
-sumRow h = h .low ∷ h .high ∷ []
 
 -- a handle; a read does not look at the file's id
 abbrev pub handleOf : ℕ → ℕ → ValueHandle

@@ -2,12 +2,13 @@
 use hash::xxh3_128;
 ghost use mathlib.Core.Path.{_≡_};
 ghost use Rattle.hash.specs.XXH3.{xxh3-128};
-ghost use Rattle.boundary.specs.Rows.{sumRow};
 
+// The low half. Two halves, each stored alone: read back as a pair they would wait for both stores.
 #[no_mangle]
-pub extern "C" fn pd_hash(s: &[u8], out: &mut [u64; 2])
-    ensures { λ _. ⌜ now (out .exit) ≡ sumRow (xxh3-128 (now (s .entry))) ⌝ }
+pub extern "C" fn pd_hash(s: &[u8], high: &mut u64) -> u64
+    ensures { λ r. ⌜ (r ≡ xxh3-128 (now (s .entry)) .low) × (now (high .exit) ≡ xxh3-128 (now (s .entry)) .high) ⌝ }
 {
     let h = xxh3_128(s);
-    *out = [h.low, h.high];
+    *high = h.high;
+    h.low
 }

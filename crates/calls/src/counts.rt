@@ -4,16 +4,23 @@ use crate::input::bounded;
 use crate::input::field;
 use crate::maps::Step;
 use crate::maps::kept;
+use crate::maps::same_map;
+use crate::output::agreed;
 use crate::output::refused;
 use crate::output::text;
 use crate::pointers::pointer;
 use crate::run::Run;
+use garbage::batch::drop_all;
+use garbage::dropped::Dropped;
 use garbage::map::CountRefusal;
 use garbage::map::Counted;
 use garbage::map::FragmentationMap;
 use garbage::record::RecordAnswer;
 use garbage::record::RecordRefusal;
 use numbers::bytes::part;
+use numbers::handle::BlobIndirection;
+use numbers::handle::ValueHandle;
+ghost use Prim.Native.Nat.{_≤_};
 
 pub fn ok(out: &mut [u8], run: Run) -> Run {
     text(out, run, b"ok\n")
@@ -65,36 +72,59 @@ pub fn dropped(batch: &[u8], out: &mut [u8], step: Step) -> Step {
     record(out, step, marked.value == 1, part(batch, f.at, f.len))
 }
 
-// Pointers dropped one by one: the map, the first refusal's number or 0, and the run.
-struct Tally {
-    map: FragmentationMap,
-    number: u64,
+// Pointers that are told, up to 256, and the run after them.
+struct Pointers {
+    list: [BlobIndirection; 256],
     run: Run,
 }
 
-fn number_after(number: u64, a: Counted) -> u64 {
-    if number != 0 {
-        return number;
+fn nowhere() -> BlobIndirection {
+    let handle = ValueHandle {
+        offset: 0,
+        file: 0,
+        size: 0,
+    };
+    BlobIndirection { handle, stated: 0 }
+}
+
+fn listed(batch: &[u8], run: Run, count: u64) -> Pointers {
+    let none = nowhere();
+    let mut list = [none; 256];
+    let mut now = run;
+    let mut i: u64 = 0;
+    while i < count && i < 256 {
+        let p = pointer(batch, now);
+        let q = p.indirection;
+        list[i as usize] = q;
+        now = p.run;
+        i += 1;
     }
+    Pointers { list, run: now }
+}
+
+// The batch: the first n pointers, lent.
+fn by_batch(map: FragmentationMap, list: [BlobIndirection; 256], n: usize) -> Dropped
+    requires { ⌜ n ≤ 256 ⌝ }
+{
+    drop_all(map, &list[..n])
+}
+
+// Pointers dropped one by one: the map, and the first refusal's number or 0.
+struct Tally {
+    map: FragmentationMap,
+    number: u64,
+}
+
+fn counted_number(a: Counted) -> u64 {
     match a {
         Counted::Done => 0,
         Counted::Refused(why) => count_number(why),
     }
 }
 
-fn counted_one(batch: &[u8], t: Tally) -> Tally {
-    let p = pointer(batch, t.run);
-    let d = t.map.drop(p.indirection);
-    let a = d.answer;
-    let number = number_after(t.number, a);
-    let map = d.map;
-    let run = p.run;
-    Tally { map, number, run }
-}
-
 // The number of a map's own refusal, by a record that is not marked, or 0.
-fn number_before(batch: &[u8], map: FragmentationMap) -> u64 {
-    let d = map.drop_record(false, part(batch, 0, 0));
+fn number_before(map: FragmentationMap) -> u64 {
+    let d = map.drop_record(false, b"");
     let a = d.answer;
     match a {
         RecordAnswer::Done => 0,
@@ -102,31 +132,80 @@ fn number_before(batch: &[u8], map: FragmentationMap) -> u64 {
     }
 }
 
-fn tallies(batch: &[u8], map: FragmentationMap, run: Run, count: u64) -> Tally {
+fn counted_one(t: Tally, p: BlobIndirection) -> Tally {
+    if t.number != 0 {
+        return t;
+    }
+    let d = t.map.drop(p);
+    let a = d.answer;
+    let map = d.map;
+    Tally {
+        map,
+        number: counted_number(a),
+    }
+}
+
+fn nth(list: [BlobIndirection; 256], i: usize) -> BlobIndirection {
+    if i < 256 {
+        let p = list[i];
+        return p;
+    }
+    nowhere()
+}
+
+fn one_by_one(map: FragmentationMap, list: [BlobIndirection; 256], n: usize) -> Tally {
     let mut now = Tally {
         map,
-        number: number_before(batch, map),
-        run,
+        number: number_before(map),
     };
-    let mut left = count;
-    while 0 < left && now.run.well {
-        now = counted_one(batch, now);
-        left -= 1;
+    let mut i = 0;
+    while i < n {
+        now = counted_one(now, nth(list, i));
+        i += 1;
     }
     now
 }
 
+// Both forms gave the same: the same refusal and the map as it came in, or the same map.
+fn agree(map: FragmentationMap, batch: Tally, single: Tally) -> bool {
+    if batch.number != single.number {
+        return false;
+    }
+    if batch.number == 0 {
+        return same_map(batch.map, single.map);
+    }
+    same_map(batch.map, map)
+}
+
+fn both(out: &mut [u8], step: Step, list: [BlobIndirection; 256], n: usize) -> Step
+    requires { ⌜ n ≤ 256 ⌝ }
+{
+    let d = by_batch(step.map, list, n);
+    let a = d.answer;
+    let map = d.map;
+    let batch = Tally {
+        map,
+        number: counted_number(a),
+    };
+    let run = counted(out, step.run, a);
+    let single = one_by_one(step.map, list, n);
+    let run = agreed(out, run, agree(step.map, batch, single));
+    kept(step, map, run)
+}
+
 pub fn all(batch: &[u8], out: &mut [u8], step: Step) -> Step {
     let n = bounded(batch, step.run, 256);
-    let t = tallies(batch, step.map, n.run, n.value);
-    let run = t.run;
-    if !run.well {
-        return kept(step, step.map, run);
+    let p = listed(batch, n.run, n.value);
+    let run = p.run;
+    let step = kept(step, step.map, run);
+    let count = n.value as usize;
+    if run.well {
+        if count <= 256 {
+            let list = p.list;
+            return both(out, step, list, count);
+        }
     }
-    if t.number == 0 {
-        return kept(step, t.map, ok(out, run));
-    }
-    kept(step, step.map, refused(out, run, t.number))
+    step
 }
 
 pub fn merged(out: &mut [u8], step: Step) -> Step {

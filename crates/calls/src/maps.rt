@@ -21,6 +21,35 @@ pub fn kept(step: Step, map: FragmentationMap, run: Run) -> Step {
     Step { map, other, run }
 }
 
+fn same_entry(a: FragmentationMap, b: FragmentationMap, i: usize) -> bool
+    requires { ⌜ i < 64 ⌝ }
+{
+    if a.ids[i] != b.ids[i] {
+        return false;
+    }
+    if a.frames[i] != b.frames[i] {
+        return false;
+    }
+    if a.stated[i] != b.stated[i] {
+        return false;
+    }
+    a.disk[i] == b.disk[i]
+}
+
+// The same entries; what stands past them is not looked at.
+pub fn same_map(a: FragmentationMap, b: FragmentationMap) -> bool {
+    let mut i = 0;
+    while i < 64 {
+        if i < a.count {
+            if !same_entry(a, b, i) {
+                return false;
+            }
+        }
+        i += 1;
+    }
+    a.count == b.count
+}
+
 fn with_run(step: Step, run: Run) -> Step {
     let map = step.map;
     let other = step.other;

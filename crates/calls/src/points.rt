@@ -9,6 +9,8 @@ use crate::output::hex;
 use crate::output::text;
 use crate::run::Run;
 use crate::scans::sums;
+use crate::told::point;
+use crate::told::same;
 use frames::place::Place;
 use frames::reader::Told;
 use frames::reader::look;
@@ -39,50 +41,6 @@ fn answered(out: &mut [u8], run: Run, file: &[u8], told: Told) -> Run {
     }
 }
 
-fn same_sums(a: Told, b: Told) -> bool {
-    let x = a.stored;
-    let y = b.stored;
-    if x.low != y.low {
-        return false;
-    }
-    if x.high != y.high {
-        return false;
-    }
-    let x = a.computed;
-    let y = b.computed;
-    if x.low != y.low {
-        return false;
-    }
-    x.high == y.high
-}
-
-fn same_cut(a: CutShort, b: CutShort) -> bool {
-    if a.at != b.at {
-        return false;
-    }
-    if a.needed != b.needed {
-        return false;
-    }
-    a.present == b.present
-}
-
-fn same_place(a: Place, b: Place) -> bool {
-    if a.at == b.at { a.len == b.len } else { false }
-}
-
-fn same_told(a: Told, b: Told) -> bool {
-    if a.number != b.number {
-        return false;
-    }
-    if !same_place(a.value, b.value) {
-        return false;
-    }
-    if !same_cut(a.cut, b.cut) {
-        return false;
-    }
-    same_sums(a, b)
-}
-
 fn stands(s: &[u8], i: usize, byte: u8) -> bool {
     if i < s.len() { s[i] == byte } else { false }
 }
@@ -100,7 +58,7 @@ fn same_bytes(a: &[u8], b: &[u8]) -> bool {
 
 // What the one call read and told, held against what a look told.
 fn held<'a>(file: &'a [u8], bytes: &'a [u8], told: Told, looked: Told) -> bool {
-    if same_told(told, looked) {
+    if same(point(told), point(looked)) {
         return same_bytes(bytes, value(file, looked));
     }
     false

@@ -15,7 +15,7 @@ fn answer(batch: &[u8], out: &mut [u8], run: Run, letter: u8) -> Run {
         b'H' => hashes::joined(batch, out, run),
         b'h' => hashes::one(batch, out, run),
         b'W' => files::written(batch, out, run),
-        b'S' => scans::scanned(batch, out, run),
+        b'S' => scans::file(batch, out, run),
         b'P' => points::pointed(batch, out, run),
         b'M' => merges::merged(batch, out, run),
         b'D' => drains::asked(batch, out, run),

@@ -1,17 +1,21 @@
 // The letter S: a file scanned from its first byte.
 use crate::hashes::sum;
 use crate::input::field;
+use crate::output::agreed;
 use crate::output::decimal;
 use crate::output::end;
 use crate::output::hex;
 use crate::output::line;
 use crate::output::text;
 use crate::run::Run;
+use crate::told::same;
+use crate::told::scanned;
 use frames::place::Place;
 use frames::scanner::ScanEntry;
 use frames::scanner::ScanRefusal;
 use frames::scanner::Scanned;
 use frames::scanner::Scanner;
+use frames::scanner::checked;
 use hash::Hash128;
 use numbers::bytes::part;
 
@@ -121,10 +125,19 @@ fn answered(out: &mut [u8], run: Run, file: &[u8], a: Scanned, from: usize) -> S
     }
 }
 
+// The step, and the same by its two halves.
 fn step(out: &mut [u8], file: &[u8], scan: Scan) -> Scan {
-    let scanner = scan.scanner;
-    let a = scanner.step(file);
-    answered(out, scan.run, file, a, scanner.at)
+    let from = scan.scanner;
+    let a = from.step(file);
+    let halves = checked(file, from.step_unchecked(file));
+    let now = answered(out, scan.run, file, a, from.at);
+    let scanner = now.scanner;
+    let run = agreed(out, now.run, same(scanned(a), scanned(halves)));
+    Scan {
+        scanner,
+        more: now.more,
+        run,
+    }
 }
 
 // A scan is over within a quarter as many steps as the file has bytes, and one.
@@ -142,7 +155,7 @@ fn steps(out: &mut [u8], run: Run, file: &[u8]) -> Run {
     now.run
 }
 
-pub fn scanned(batch: &[u8], out: &mut [u8], run: Run) -> Run {
+pub fn file(batch: &[u8], out: &mut [u8], run: Run) -> Run {
     let f = field(batch, run);
     let run = f.run;
     if !run.well {

@@ -1,5 +1,9 @@
-// Answers as ten numbers, so that two forms of a call can be held against each other. The last says which case it is.
+// Answers as ten numbers, so that two forms of a call can be held against each other.
+use frames::reader::Told;
+use frames::scanner::ScanEntry;
 use frames::scanner::ScanRefusal;
+use frames::scanner::Scanned;
+use frames::scanner::Scanner;
 use hash::Hash128;
 use merge::heads::MergeEntry;
 use merge::next::MergeAnswer;
@@ -19,6 +23,27 @@ pub fn same(a: [u64; 10], b: [u64; 10]) -> bool {
     true
 }
 
+// What a point read told.
+pub fn point(t: Told) -> [u64; 10] {
+    let value = t.value;
+    let stored = t.stored;
+    let computed = t.computed;
+    let cut = t.cut;
+    [
+        t.number,
+        value.at as u64,
+        value.len as u64,
+        stored.low,
+        stored.high,
+        computed.low,
+        computed.high,
+        cut.at as u64,
+        cut.needed as u64,
+        cut.present as u64,
+    ]
+}
+
+// An answer without numbers; the last of the ten says which case it is.
 fn bare(case: u64) -> [u64; 10] {
     [0, 0, 0, 0, 0, 0, 0, 0, 0, case]
 }
@@ -62,6 +87,53 @@ fn refusal(part: u64, why: ScanRefusal) -> [u64; 10] {
             stored,
             computed,
         } => mismatch(part, at as u64, stored, computed),
+    }
+}
+
+fn flag(on: bool) -> u64 {
+    if on { 1 } else { 0 }
+}
+
+fn frame(e: ScanEntry, next: Scanner) -> [u64; 10] {
+    let key = e.key;
+    let value = e.value;
+    [
+        e.offset as u64,
+        key.at as u64,
+        key.len as u64,
+        e.seqno,
+        e.stated as u64,
+        value.at as u64,
+        value.len as u64,
+        next.at as u64,
+        flag(next.ended),
+        0,
+    ]
+}
+
+fn refused_step(why: ScanRefusal, next: Scanner) -> [u64; 10] {
+    let mut r = refusal(next.at as u64, why);
+    r[8] = flag(next.ended);
+    r
+}
+
+// A step of a scan, with the scanner after it.
+pub fn scanned(a: Scanned) -> [u64; 10] {
+    match a {
+        Scanned::Entry(e, next) => frame(e, next),
+        Scanned::End { at, next } => [
+            at as u64,
+            next.at as u64,
+            flag(next.ended),
+            0,
+            0,
+            0,
+            0,
+            0,
+            0,
+            1,
+        ],
+        Scanned::Refused(why, next) => refused_step(why, next),
     }
 }
 

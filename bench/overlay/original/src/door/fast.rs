@@ -37,6 +37,11 @@ impl Map {
         self.0.on_dropped(item);
     }
 
+    /// Of each id, its two totals as one.
+    pub fn totals(&self) -> impl Iterator<Item = (u64, u64)> + '_ {
+        self.0.iter().map(|(id, e)| (*id, e.bytes + e.on_disk_bytes))
+    }
+
     pub fn store(&self, to: &mut Vec<u8>) {
         self.0.encode_into(to).expect("a list takes everything");
     }
