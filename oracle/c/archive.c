@@ -1,23 +1,37 @@
-/* The hash of a static library against libxxhash: every length to 5,000, then lengths to 1 MiB around blocks and
-   stripes, at eight alignments. FUNCTION (pointer, length, pointer to the two halves, OUT_LEN) is the library's. */
+/* The proved archive's hashes against libxxhash: every length to 5,000, then lengths to 1 MiB around blocks and
+   stripes, at eight alignments; of one slice, and of a key and a value at eight cuts. */
 #include "bytes.h"
 
 enum { EVERY = 5000, LONGEST = 1 << 20 };
 
-void FUNCTION(const uint8_t *bytes, size_t len, uint64_t *out, size_t out_len);
+/* the low half; the high one is written */
+uint64_t pd_hash(const uint8_t *bytes, size_t len, uint64_t *high);
+uint64_t pd_hash_joined(const uint8_t *key, size_t key_len, const uint8_t *value, size_t value_len, uint64_t *high);
 
 static unsigned long compared;
+static uint8_t value[LONGEST];
+
+static void same(const char *call, size_t len, size_t cut, XXH128_hash_t sum, uint64_t low, uint64_t high) {
+    compared++;
+    if (low == sum.low64 && high == sum.high64) return;
+    printf("%s of %zu bytes, cut at %zu: libxxhash %016" PRIx64 " %016" PRIx64 ", the archive %016" PRIx64 " %016" PRIx64
+           " (low, high)\n",
+           call, len, cut, sum.low64, sum.high64, low, high);
+    exit(1);
+}
 
 static void check(const uint8_t *bytes, size_t len) {
-    uint64_t out[2] = {0, 0};
+    uint64_t high = 0;
     XXH128_hash_t sum = XXH3_128bits(bytes, len);
-    FUNCTION(bytes, len, out, OUT_LEN);
-    compared++;
-    if (out[0] != sum.low64 || out[1] != sum.high64) {
-        printf("length %zu, address %zu modulo 64: libxxhash %016" PRIx64 " %016" PRIx64
-               ", the library %016" PRIx64 " %016" PRIx64 " (low, high)\n",
-               len, (size_t)((uintptr_t)bytes % 64), sum.low64, sum.high64, out[0], out[1]);
-        exit(1);
+    uint64_t low = pd_hash(bytes, len, &high);
+    same("pd_hash", len, len, sum, low, high);
+    const size_t cuts[] = {0, 1, 20, 63, 64, len / 2, len - 1, len};
+    for (size_t k = 0; k < sizeof cuts / sizeof *cuts; k++) {
+        if (cuts[k] > len) continue;
+        /* the value stands elsewhere, so that no byte behind the key is its first */
+        memcpy(value, bytes + cuts[k], len - cuts[k]);
+        low = pd_hash_joined(bytes, cuts[k], value, len - cuts[k], &high);
+        same("pd_hash_joined", len, cuts[k], sum, low, high);
     }
 }
 
@@ -34,6 +48,6 @@ int main(void) {
         }
     }
     for (size_t align = 0; align < 8; align++) check(bytes + align, LONGEST);
-    printf("%lu hashes to 1 MiB agree with libxxhash\n", compared);
+    printf("%lu hashes of the proved archive, to 1 MiB, agree with libxxhash\n", compared);
     return 0;
 }

@@ -2,6 +2,7 @@
 
 extern "C" {
     fn pd_hash(s: *const u8, n: usize, high: *mut u64) -> u64;
+    fn pd_hash_joined(key: *const u8, k: usize, value: *const u8, v: usize, high: *mut u64) -> u64;
     fn pd_append(
         row: *mut [u64; 11],
         buf: *mut u8,
@@ -66,6 +67,12 @@ extern "C" {
 pub fn hash(s: &[u8]) -> [u64; 2] {
     let mut high = 0;
     let low = unsafe { pd_hash(s.as_ptr(), s.len(), &mut high) };
+    [low, high]
+}
+
+pub fn hash_joined(key: &[u8], value: &[u8]) -> [u64; 2] {
+    let mut high = 0;
+    let low = unsafe { pd_hash_joined(key.as_ptr(), key.len(), value.as_ptr(), value.len(), &mut high) };
     [low, high]
 }
 

@@ -1,4 +1,5 @@
-//! XXH3-128 of one slice.
+//! XXH3-128 of one slice, and of a 20-byte key and a value as one string. Every maker is a function of C's convention that is not
+//! compiled into its caller, as a library's is: bytes in, the low half out, the high half written.
 
 use crate::{boundary, fold, noise, Case, Plan};
 
@@ -13,41 +14,89 @@ extern "C" {
 }
 
 const SIZES: [usize; 13] = [1, 3, 8, 16, 32, 64, 128, 240, 241, 1024, 4096, 65536, 1_048_576];
+const JOINED: [usize; 12] = [21, 24, 32, 64, 128, 240, 241, 300, 500, 1024, 4096, 65536];
+const KEY: usize = 20;
 
-fn folded(low: u64, high: u64) -> u64 {
-    fold(low, high)
+#[inline(never)]
+extern "C" fn xxhash_rust(s: *const u8, n: usize, high: &mut u64) -> u64 {
+    let h = xxhash_rust::xxh3::xxh3_128(unsafe { std::slice::from_raw_parts(s, n) });
+    *high = (h >> 64) as u64;
+    h as u64
 }
 
-fn case(n: usize) -> Case {
-    let entries = (1 << 18) / (n + 64) + 1;
-    let (a, b, c) = (noise(n, 1), noise(n, 1), noise(n, 1));
-    let passes = move |hash: Box<dyn Fn() -> u64>| -> Box<dyn FnMut() -> u64> {
-        Box::new(move || (0..entries).fold(0, |sum, _| sum ^ hash()))
+/// As the original's writer, scanner and reader hash a key and a value.
+#[inline(never)]
+extern "C" fn xxhash_rust_stream(key: *const u8, k: usize, value: *const u8, v: usize, high: &mut u64) -> u64 {
+    let mut hasher = xxhash_rust::xxh3::Xxh3::default();
+    hasher.update(unsafe { std::slice::from_raw_parts(key, k) });
+    hasher.update(unsafe { std::slice::from_raw_parts(value, v) });
+    let h = hasher.digest128();
+    *high = (h >> 64) as u64;
+    h as u64
+}
+
+fn libxxhash(s: &[u8]) -> [u64; 2] {
+    let h = unsafe { XXH3_128bits(s.as_ptr(), s.len()) };
+    [h.low, h.high]
+}
+
+fn rust(s: &[u8]) -> [u64; 2] {
+    let mut high = 0;
+    let low = xxhash_rust(s.as_ptr(), s.len(), &mut high);
+    [low, high]
+}
+
+fn stream(key: &[u8], value: &[u8]) -> [u64; 2] {
+    let mut high = 0;
+    let low = xxhash_rust_stream(key.as_ptr(), key.len(), value.as_ptr(), value.len(), &mut high);
+    [low, high]
+}
+
+/// A pass that hashes the same bytes as often as a case has entries.
+fn passes(entries: usize, hash: impl Fn() -> [u64; 2] + 'static) -> crate::Pass {
+    Box::new(move || {
+        (0..entries).fold(0, |sum, _| {
+            let [low, high] = hash();
+            sum ^ fold(low, high)
+        })
+    })
+}
+
+fn entries(n: usize) -> usize {
+    (1 << 18) / (n + 64) + 1
+}
+
+fn one(n: usize) -> Case {
+    let of = |hash: fn(&[u8]) -> [u64; 2]| {
+        let bytes = noise(n, 1);
+        passes(entries(n), move || hash(std::hint::black_box(&bytes)))
     };
-    let ours = passes(Box::new(move || {
-        let [low, high] = boundary::hash(std::hint::black_box(&a));
-        folded(low, high)
-    }));
-    let rust = passes(Box::new(move || {
-        let h = xxhash_rust::xxh3::xxh3_128(std::hint::black_box(&b));
-        folded(h as u64, (h >> 64) as u64)
-    }));
-    let xxh = passes(Box::new(move || {
-        let s = std::hint::black_box(&c);
-        let h = unsafe { XXH3_128bits(s.as_ptr(), s.len()) };
-        folded(h.low, h.high)
-    }));
     Case {
         kind: "hash",
         size: n.to_string(),
-        entries,
-        makers: vec![("pitchdowel", ours), ("xxhash-rust", rust), ("libxxhash", xxh)],
+        entries: entries(n),
+        makers: vec![("pitchdowel", of(boundary::hash)), ("xxhash-rust", of(rust)), ("libxxhash", of(libxxhash))],
+    }
+}
+
+fn joined(n: usize) -> Case {
+    let of = |hash: fn(&[u8], &[u8]) -> [u64; 2]| {
+        let bytes = noise(n, 1);
+        let (key, value) = (bytes[..KEY].to_vec(), bytes[KEY..].to_vec());
+        passes(entries(n), move || hash(std::hint::black_box(&key), std::hint::black_box(&value)))
+    };
+    let bytes = noise(n, 1);
+    let whole = passes(entries(n), move || rust(std::hint::black_box(&bytes)));
+    Case {
+        kind: "joined",
+        size: n.to_string(),
+        entries: entries(n),
+        makers: vec![("pitchdowel", of(boundary::hash_joined)), ("two-updates", of(stream)), ("one-slice", whole)],
     }
 }
 
 pub fn plans() -> Vec<Plan> {
-    SIZES
-        .iter()
-        .map(|&n| Plan { kind: "hash", size: n.to_string(), make: Box::new(move || case(n)) })
-        .collect()
+    let kinds = [("hash", &SIZES[..], one as fn(usize) -> Case), ("joined", &JOINED[..], joined)];
+    let plan = |(kind, n, make): (_, usize, fn(usize) -> Case)| Plan { kind, size: n.to_string(), make: Box::new(move || make(n)) };
+    kinds.into_iter().flat_map(|(kind, sizes, make)| sizes.iter().map(move |&n| (kind, n, make))).map(plan).collect()
 }

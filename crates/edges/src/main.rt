@@ -1,6 +1,7 @@
 // Document 01's edges and slips, run: a heading for each paragraph, a line for each case.
 mod dropping;
 mod merging;
+mod numbering;
 mod reading;
 mod say;
 mod scanning;
@@ -11,5 +12,6 @@ fn main() {
     scanning::edges();
     reading::edges();
     merging::edges();
+    numbering::edges();
     dropping::edges();
 }

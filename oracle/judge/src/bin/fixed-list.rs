@@ -1,4 +1,4 @@
-//! fixed-list OUTDIR: writes `stdin` and `stdout` for crates/calls, from the original Rust's answers alone.
+//! fixed-list OUTDIR [SEED]: writes `stdin` and `stdout` for crates/calls, from the original Rust's answers alone.
 //! Only records that it judges whole are taken, so many of each letter, and none that is long.
 
 use judge::answer::{Judge, UNJUDGED};
@@ -7,7 +7,7 @@ use std::collections::HashMap;
 use std::io;
 use std::path::PathBuf;
 
-/// Another seed makes another list.
+/// The seed of the list that crates/calls has; another seed makes another list.
 const SEED: u64 = 2_026;
 
 /// So many records of each letter.
@@ -36,8 +36,10 @@ const ALL: usize = 2_000_000;
 
 fn main() -> io::Result<()> {
     original::door::panic_quietly();
-    let Some(folder) = std::env::args().nth(1).map(PathBuf::from) else {
-        eprintln!("usage: fixed-list OUTDIR");
+    let words: Vec<String> = std::env::args().skip(1).collect();
+    let seed = words.get(1).map_or(Ok(SEED), |word| word.parse());
+    let (Some(folder), Ok(seed), 1..=2) = (words.first().map(PathBuf::from), seed, words.len()) else {
+        eprintln!("usage: fixed-list OUTDIR [SEED]");
         std::process::exit(2);
     };
     let mut left: HashMap<char, usize> = WANTED.into_iter().collect();
@@ -47,7 +49,7 @@ fn main() -> io::Result<()> {
         if left.values().all(|&left| left == 0) {
             break;
         }
-        let record = case(SEED, index);
+        let record = case(seed, index);
         let wanted = left.get_mut(&record.letter()).expect("a letter of the table");
         if *wanted == 0 {
             continue;
