@@ -10,12 +10,12 @@ use crate::output::text;
 use crate::run::Run;
 use crate::told::same;
 use crate::told::scanned;
+use frames::held::held_step;
 use frames::place::Place;
 use frames::scanner::ScanEntry;
 use frames::scanner::ScanRefusal;
 use frames::scanner::Scanned;
 use frames::scanner::Scanner;
-use frames::scanner::checked;
 use hash::Hash128;
 use numbers::bytes::part;
 
@@ -125,14 +125,14 @@ fn answered(out: &mut [u8], run: Run, file: &[u8], a: Scanned, from: usize) -> S
     }
 }
 
-// The step, and the same by its two halves.
+// The step, and the same by a scanner that holds the file.
 fn step(out: &mut [u8], file: &[u8], scan: Scan) -> Scan {
     let from = scan.scanner;
     let a = from.step(file);
-    let halves = checked(file, from.step_unchecked(file));
+    let held = held_step(file, from);
     let now = answered(out, scan.run, file, a, from.at);
     let scanner = now.scanner;
-    let run = agreed(out, now.run, same(scanned(a), scanned(halves)));
+    let run = agreed(out, now.run, same(scanned(a), scanned(held)));
     Scan {
         scanner,
         more: now.more,

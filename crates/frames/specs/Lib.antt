@@ -4,6 +4,7 @@ pub mod Numbers
 pub mod Scan
 pub mod ScanLaws
 pub mod StepLaws
+pub mod Held
 pub mod Write
 pub mod WriteLaws
 pub mod Point
