@@ -44,6 +44,15 @@ extern "C" {
         size: u32,
         length: u32,
     ) -> u64;
+    fn pd_batch(
+        count: *mut usize,
+        ids: *mut [u64; 64],
+        frames: *mut [u32; 64],
+        stated: *mut [u64; 64],
+        disk: *mut [u64; 64],
+        rows: *const u64,
+        r: usize,
+    ) -> u64;
     fn pd_store(
         count: usize,
         ids: *const [u64; 64],
@@ -136,6 +145,11 @@ impl Default for Map {
 
 pub fn drop(m: &mut Map, file: u64, size: u32, stated: u32) -> u64 {
     unsafe { pd_drop(&mut m.count, &mut m.ids, &mut m.frames, &mut m.stated, &mut m.disk, file, size, stated) }
+}
+
+/// Three numbers a pointer: file, on-disk size, stated length.
+pub fn batch(m: &mut Map, rows: &[u64]) -> u64 {
+    unsafe { pd_batch(&mut m.count, &mut m.ids, &mut m.frames, &mut m.stated, &mut m.disk, rows.as_ptr(), rows.len()) }
 }
 
 pub fn store(m: &Map, buf: &mut [u8]) -> u64 {

@@ -11,17 +11,19 @@ fn pointer(i: usize, ids: usize) -> Pointer {
     Pointer { id: (i * 7919 % ids) as u64 * 3 + 5, offset: i as u64 * 4096, size: 4096, stated: 5000 }
 }
 
-fn drops(ids: usize) -> Case {
-    let n = 1000;
-    let pointers: Vec<Pointer> = (0..n).map(|i| pointer(i, ids)).collect();
-    let records: Vec<_> = pointers.iter().map(|&p| fast::record(&encode(p))).collect();
-    let ours: Pass = Box::new(move || {
-        let mut map = Map::default();
-        for p in &pointers {
-            assert_eq!(boundary::drop(&mut map, p.id, p.size, p.stated), 0);
-        }
-        (0..map.count).fold(0u64, |sum, i| sum.wrapping_add(fold(map.ids[i], map.stated[i] + map.disk[i])))
-    });
+const DROPS: usize = 1000;
+
+fn pointers(ids: usize) -> Vec<Pointer> {
+    (0..DROPS).map(|i| pointer(i, ids)).collect()
+}
+
+fn totals(map: &Map) -> u64 {
+    (0..map.count).fold(0u64, |sum, i| sum.wrapping_add(fold(map.ids[i], map.stated[i] + map.disk[i])))
+}
+
+/// Our way beside the original's: one record after another.
+fn dropped(kind: &'static str, ids: usize, ours: Pass) -> Case {
+    let records: Vec<_> = pointers(ids).iter().map(|&p| fast::record(&encode(p))).collect();
     let rust: Pass = Box::new(move || {
         let mut map = fast::Map::default();
         for record in &records {
@@ -29,7 +31,29 @@ fn drops(ids: usize) -> Case {
         }
         map.totals().fold(0u64, |sum, (id, total)| sum.wrapping_add(fold(id, total)))
     });
-    Case { kind: "drop", size: ids.to_string(), entries: n, makers: vec![("pitchdowel", ours), ("original", rust)] }
+    Case { kind, size: ids.to_string(), entries: DROPS, makers: vec![("pitchdowel", ours), ("original", rust)] }
+}
+
+fn drops(ids: usize) -> Case {
+    let pointers = pointers(ids);
+    let ours: Pass = Box::new(move || {
+        let mut map = Map::default();
+        for p in &pointers {
+            assert_eq!(boundary::drop(&mut map, p.id, p.size, p.stated), 0);
+        }
+        totals(&map)
+    });
+    dropped("drop", ids, ours)
+}
+
+fn batch(ids: usize) -> Case {
+    let rows: Vec<u64> = pointers(ids).iter().flat_map(|p| [p.id, p.size.into(), p.stated.into()]).collect();
+    let ours: Pass = Box::new(move || {
+        let mut map = Map::default();
+        assert_eq!(boundary::batch(&mut map, &rows), 0);
+        totals(&map)
+    });
+    dropped("batch", ids, ours)
 }
 
 fn filled(ids: usize) -> (Map, fast::Map) {
@@ -77,7 +101,7 @@ fn load(ids: usize) -> Case {
 
 pub fn plans() -> Vec<Plan> {
     let mut all = Vec::new();
-    for (kind, make) in [("drop", drops as fn(usize) -> Case), ("store", store), ("load", load)] {
+    for (kind, make) in [("drop", drops as fn(usize) -> Case), ("batch", batch), ("store", store), ("load", load)] {
         for ids in IDS {
             all.push(Plan { kind, size: ids.to_string(), make: Box::new(move || make(ids)) });
         }

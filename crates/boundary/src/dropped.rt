@@ -1,17 +1,23 @@
-// The fragmentation map in lent columns: a drop, the stored form.
+// The fragmentation map in lent columns: a drop, a batch of drops, the stored form.
+use garbage::batch::drop_listed;
 use garbage::dropped::drop_into;
 use garbage::map::CountRefusal;
 use garbage::map::Counted;
 use garbage::map::FragmentationMap;
 use garbage::stored::LoadAnswer;
 use garbage::stored::Stored;
+use garbage::stored::store_columns;
+use numbers::bytes::lesser;
 use numbers::handle::BlobIndirection;
 use numbers::handle::ValueHandle;
 ghost use mathlib.Core.Path.{_≡_};
+ghost use Prim.Native.Nat.{_+_, _*_, _≤_};
+ghost use lib.ListN.{length, take};
 ghost use Rattle.garbage.specs.Maps.{mapOf};
 ghost use Rattle.garbage.specs.Drops.{droppedOf};
+ghost use Rattle.garbage.specs.Batch.{batchOf};
 ghost use Rattle.garbage.specs.Stored.{storeAnswer, storeBytes, loadOf};
-ghost use Rattle.boundary.specs.Maps.{pointerOf, countedNumber, storedNumber, loadedNumber};
+ghost use Rattle.boundary.specs.Maps.{pointerOf, pointerAt, pointersIn, pointersOf, countedNumber, storedNumber, loadedNumber};
 
 // 0, or document 01's number.
 fn counted_number(a: Counted) -> u64
@@ -54,6 +60,84 @@ pub extern "C" fn pd_drop(
     counted_number(a)
 }
 
+// The pointer that three numbers are: file, on-disk size, stated length.
+fn pointer_at(rows: &[u64], i: usize) -> BlobIndirection
+    requires { ⌜ 3 * i + 3 ≤ length (now rows) ⌝ }
+    ensures { λ r. ⌜ r ≡ pointerAt (now (rows .entry)) i ⌝ }
+{
+    let at = 3 * i;
+    let handle = ValueHandle {
+        offset: 0,
+        file: rows[at],
+        size: (rows[at + 1] % 4294967296) as u32,
+    };
+    BlobIndirection {
+        handle,
+        stated: (rows[at + 2] % 4294967296) as u32,
+    }
+}
+
+fn pointers_of(rows: &[u64], n: usize) -> [BlobIndirection; 1024]
+    requires { ⌜ (n ≤ 1024) × (3 * n ≤ length (now rows)) ⌝ }
+    ensures { λ r. ⌜ take n r ≡ pointersIn n (now (rows .entry)) ⌝ }
+{
+    let handle = ValueHandle {
+        offset: 0,
+        file: 0,
+        size: 0,
+    };
+    let none = BlobIndirection { handle, stated: 0 };
+    let mut list = [none; 1024];
+    let mut i = 0;
+    while i < n {
+        let p = pointer_at(rows, i);
+        list[i] = p;
+        i += 1;
+    }
+    list
+}
+
+// A batch, three numbers a pointer; past 1,024 pointers the rest is left.
+#[no_mangle]
+pub extern "C" fn pd_batch(
+    count: &mut usize,
+    ids: &mut [u64; 64],
+    frames: &mut [u32; 64],
+    stated: &mut [u64; 64],
+    disk: &mut [u64; 64],
+    rows: &[u64],
+) -> u64
+    ensures { λ r. ⌜ (r ≡ countedNumber (batchOf (mapOf (now (count .entry)) (record { ids = now (ids .entry); frames = now (frames .entry); stated = now (stated .entry); disk = now (disk .entry) })) (pointersOf (now (rows .entry))) .answer))
+        × (mapOf (now (count .exit)) (record { ids = now (ids .exit); frames = now (frames .exit); stated = now (stated .exit); disk = now (disk .exit) })
+        ≡ batchOf (mapOf (now (count .entry)) (record { ids = now (ids .entry); frames = now (frames .entry); stated = now (stated .entry); disk = now (disk .entry) })) (pointersOf (now (rows .entry))) .map) ⌝ }
+{
+    let i = *ids;
+    let f = *frames;
+    let s = *stated;
+    let d = *disk;
+    let m = FragmentationMap {
+        count: *count,
+        ids: i,
+        frames: f,
+        stated: s,
+        disk: d,
+    };
+    let n = lesser(rows.len() / 3, 1024);
+    let dropped = drop_listed(m, pointers_of(rows, n), n);
+    let after = dropped.map;
+    let i = after.ids;
+    let f = after.frames;
+    let s = after.stated;
+    let d = after.disk;
+    *count = after.count;
+    *ids = i;
+    *frames = f;
+    *stated = s;
+    *disk = d;
+    let a = dropped.answer;
+    counted_number(a)
+}
+
 // The bytes used, or the largest number.
 fn stored_number(a: Stored) -> u64
     ensures { λ r. ⌜ r ≡ storedNumber a ⌝ }
@@ -65,29 +149,18 @@ fn stored_number(a: Stored) -> u64
 }
 
 #[no_mangle]
-pub extern "C" fn pd_store(
+pub extern "C" fn pd_store<'a>(
     count: usize,
-    ids: &[u64; 64],
-    frames: &[u32; 64],
-    stated: &[u64; 64],
-    disk: &[u64; 64],
+    ids: &'a [u64; 64],
+    frames: &'a [u32; 64],
+    stated: &'a [u64; 64],
+    disk: &'a [u64; 64],
     buf: &mut [u8],
 ) -> u64
     ensures { λ r. ⌜ (r ≡ storedNumber (storeAnswer (mapOf count (record { ids = now (ids .entry); frames = now (frames .entry); stated = now (stated .entry); disk = now (disk .entry) })) (now (buf .entry))))
         × (now (buf .exit) ≡ storeBytes (mapOf count (record { ids = now (ids .entry); frames = now (frames .entry); stated = now (stated .entry); disk = now (disk .entry) })) (now (buf .entry))) ⌝ }
 {
-    let i = *ids;
-    let f = *frames;
-    let s = *stated;
-    let d = *disk;
-    let m = FragmentationMap {
-        count,
-        ids: i,
-        frames: f,
-        stated: s,
-        disk: d,
-    };
-    let a = m.store(buf);
+    let a = store_columns(count, ids, frames, stated, disk, buf);
     stored_number(a)
 }
 

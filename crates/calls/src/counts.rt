@@ -10,17 +10,16 @@ use crate::output::refused;
 use crate::output::text;
 use crate::pointers::pointer;
 use crate::run::Run;
-use garbage::batch::drop_all;
-use garbage::dropped::Dropped;
+use garbage::batch::drop_listed;
 use garbage::map::CountRefusal;
 use garbage::map::Counted;
 use garbage::map::FragmentationMap;
 use garbage::record::RecordAnswer;
 use garbage::record::RecordRefusal;
+use numbers::bytes::lesser;
 use numbers::bytes::part;
 use numbers::handle::BlobIndirection;
 use numbers::handle::ValueHandle;
-ghost use Prim.Native.Nat.{_≤_};
 
 pub fn ok(out: &mut [u8], run: Run) -> Run {
     text(out, run, b"ok\n")
@@ -72,9 +71,9 @@ pub fn dropped(batch: &[u8], out: &mut [u8], step: Step) -> Step {
     record(out, step, marked.value == 1, part(batch, f.at, f.len))
 }
 
-// Pointers that are told, up to 256, and the run after them.
+// Pointers that are told, and the run after them.
 struct Pointers {
-    list: [BlobIndirection; 256],
+    list: [BlobIndirection; 1024],
     run: Run,
 }
 
@@ -89,10 +88,10 @@ fn nowhere() -> BlobIndirection {
 
 fn listed(batch: &[u8], run: Run, count: u64) -> Pointers {
     let none = nowhere();
-    let mut list = [none; 256];
+    let mut list = [none; 1024];
     let mut now = run;
     let mut i: u64 = 0;
-    while i < count && i < 256 {
+    while i < count && i < 1024 {
         let p = pointer(batch, now);
         let q = p.indirection;
         list[i as usize] = q;
@@ -100,13 +99,6 @@ fn listed(batch: &[u8], run: Run, count: u64) -> Pointers {
         i += 1;
     }
     Pointers { list, run: now }
-}
-
-// The batch: the first n pointers, lent.
-fn by_batch(map: FragmentationMap, list: [BlobIndirection; 256], n: usize) -> Dropped
-    requires { ⌜ n ≤ 256 ⌝ }
-{
-    drop_all(map, &list[..n])
 }
 
 // Pointers dropped one by one: the map, and the first refusal's number or 0.
@@ -145,22 +137,16 @@ fn counted_one(t: Tally, p: BlobIndirection) -> Tally {
     }
 }
 
-fn nth(list: [BlobIndirection; 256], i: usize) -> BlobIndirection {
-    if i < 256 {
-        let p = list[i];
-        return p;
-    }
-    nowhere()
-}
-
-fn one_by_one(map: FragmentationMap, list: [BlobIndirection; 256], n: usize) -> Tally {
+fn one_by_one(map: FragmentationMap, list: [BlobIndirection; 1024], n: usize) -> Tally {
     let mut now = Tally {
         map,
         number: number_before(map),
     };
+    let most = lesser(n, 1024);
     let mut i = 0;
-    while i < n {
-        now = counted_one(now, nth(list, i));
+    while i < most {
+        let p = list[i];
+        now = counted_one(now, p);
         i += 1;
     }
     now
@@ -177,10 +163,8 @@ fn agree(map: FragmentationMap, batch: Tally, single: Tally) -> bool {
     same_map(batch.map, map)
 }
 
-fn both(out: &mut [u8], step: Step, list: [BlobIndirection; 256], n: usize) -> Step
-    requires { ⌜ n ≤ 256 ⌝ }
-{
-    let d = by_batch(step.map, list, n);
+fn both(out: &mut [u8], step: Step, list: [BlobIndirection; 1024], n: usize) -> Step {
+    let d = drop_listed(step.map, list, n);
     let a = d.answer;
     let map = d.map;
     let batch = Tally {
@@ -198,12 +182,9 @@ pub fn all(batch: &[u8], out: &mut [u8], step: Step) -> Step {
     let p = listed(batch, n.run, n.value);
     let run = p.run;
     let step = kept(step, step.map, run);
-    let count = n.value as usize;
     if run.well {
-        if count <= 256 {
-            let list = p.list;
-            return both(out, step, list, count);
-        }
+        let list = p.list;
+        return both(out, step, list, n.value as usize);
     }
     step
 }

@@ -24,6 +24,10 @@ module _ (n : ℕ) (a b x y : List ℕ) where
   pub order : n ≤ 64 → Whole (cols a b x y) → wellFormed (mapOf n (cols a b x y)) ≡ risingFrom 0 (take n a)
   order h w = rw (le-leb n 64 h) (ascending-held n (cols a b x y) h w)
 
+-- the order, once it was tested
+pub tested : (n : ℕ) (c : Columns) (r b : Bool) → n ≤ 64 → Whole c → r ≡ risingFrom 0 (take n (c .ids)) → r ≡ b → wellFormed (mapOf n c) ≡ b
+tested n c r b h w e q = order n (c .ids) (c .frames) (c .stated) (c .disk) h w ∙ sym e ∙ q
+
 -- what a well-formed map is known to have
 module _ (m : FragmentationMap) (h : wellFormed m ≡ true) where
   pub well-few : m .count ≤ 64

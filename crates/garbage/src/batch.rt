@@ -1,6 +1,7 @@
 // A batch of dropped pointers, one lent list walked once: taken whole, or refused with its first refusal.
 ghost use mathlib.Core.Path.{_≡_};
 ghost use Prim.Native.Nat.{ℕ, _<_, _≤_};
+ghost use lib.ListN.{take};
 ghost use Rattle.garbage.specs.Maps.{Columns, columnsOf};
 ghost use Rattle.garbage.specs.Drops.{one};
 ghost use Rattle.garbage.specs.Batch.{batchOf};
@@ -13,6 +14,7 @@ use crate::map::Counted;
 use crate::map::FragmentationMap;
 use crate::map::well_formed;
 use crate::merged::turn;
+use numbers::bytes::lesser;
 use numbers::handle::BlobIndirection;
 
 // One pointer more. `n` is the count, or a refusal, after which nothing is done.
@@ -101,4 +103,19 @@ pub fn drop_all(m: FragmentationMap, pointers: &[BlobIndirection]) -> Dropped
         i += 1;
     }
     finish(m, n, ids, frames, stated, disk)
+}
+
+// The first `n` of a list, lent.
+fn drop_first(m: FragmentationMap, list: [BlobIndirection; 1024], n: usize) -> Dropped
+    requires { ⌜ n ≤ 1024 ⌝ }
+    ensures { λ r. ⌜ r ≡ batchOf m (take n list) ⌝ }
+{
+    drop_all(m, &list[..n])
+}
+
+// A batch for a caller with no slice to lend: the first `n` pointers of a list, or all that it has.
+pub fn drop_listed(m: FragmentationMap, list: [BlobIndirection; 1024], n: usize) -> Dropped
+    ensures { λ r. ⌜ r ≡ batchOf m (take n list) ⌝ }
+{
+    drop_first(m, list, lesser(n, 1024))
 }

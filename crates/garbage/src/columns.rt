@@ -3,7 +3,7 @@ ghost use mathlib.Core.Path.{_≡_};
 ghost use mathlib.Core.Bool.{true, false};
 ghost use Prim.Native.Nat.{ℕ, _+_, _<_, _≤_};
 ghost use lib.ListN.{length, getD, take, drop};
-ghost use Rattle.garbage.specs.Maps.{Columns};
+ghost use Rattle.garbage.specs.Maps.{Columns, entryAt};
 ghost use Rattle.garbage.specs.Columns.{placeIn, risingFrom, insertedAt, Inserted, written, Whole, Ready, Grew, state, addOf};
 use crate::map::FragmentationEntry;
 
@@ -23,6 +23,25 @@ pub(crate) fn place(ids: &[u64; 64], n: usize, id: u64) -> usize
         }
     }
     lo
+}
+
+// The entry at slot `i`.
+pub(crate) fn entry_at<'a>(
+    ids: &'a [u64; 64],
+    frames: &'a [u32; 64],
+    stated: &'a [u64; 64],
+    disk: &'a [u64; 64],
+    i: usize,
+) -> FragmentationEntry
+    requires { ⌜ i < 64 ⌝ }
+    ensures { λ r. ⌜ r ≡ entryAt (record { ids = now (ids .entry); frames = now (frames .entry); stated = now (stated .entry); disk = now (disk .entry) }) i ⌝ }
+{
+    FragmentationEntry {
+        id: ids[i],
+        frames: frames[i],
+        stated: stated[i],
+        disk: disk[i],
+    }
 }
 
 // Whether the first `n` ids strictly ascend.

@@ -1,6 +1,6 @@
 // The fragmentation map: what was dropped of each blob file, and what is judged by it.
 pub mod batch;
-pub mod columns;
+mod columns;
 pub mod dropped;
 pub mod map;
 pub mod merged;

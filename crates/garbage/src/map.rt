@@ -1,11 +1,11 @@
 // The map by value: at most 64 file ids, ascending, in four columns.
 ghost use mathlib.Core.Path.{_≡_};
-ghost use Prim.Native.Nat.{ℕ, _<_, _≤_};
-ghost use mathlib.Core.Bool.{true};
-ghost use Rattle.garbage.specs.Maps.{emptyMap, columnsOf, entryAt, wellFormed};
+ghost use Rattle.garbage.specs.Maps.{Columns, emptyMap, mapOf, wellFormed};
 ghost use Rattle.garbage.specs.Lookups.{lookupOf};
 use crate::columns::ascending;
+use crate::columns::entry_at;
 use crate::columns::place;
+use crate::dropped::told;
 
 // What was dropped of one file: frames, stated bytes, on-disk value bytes.
 pub struct FragmentationEntry {
@@ -53,17 +53,31 @@ pub(crate) fn well_formed(m: FragmentationMap) -> bool
     ascending(&ids, n)
 }
 
-// The entry at slot `i`.
-pub(crate) fn entry_at(m: FragmentationMap, i: usize) -> FragmentationEntry
-    requires { ⌜ i < 64 ⌝ }
-    ensures { λ r. ⌜ r ≡ entryAt (columnsOf m) i ⌝ }
+// What any map whose columns are lent holds of an id.
+fn find<'a>(
+    count: usize,
+    ids: &'a [u64; 64],
+    frames: &'a [u32; 64],
+    stated: &'a [u64; 64],
+    disk: &'a [u64; 64],
+    id: u64,
+) -> Lookup
+    ensures { λ r. ⌜ r ≡ lookupOf (mapOf count (record { ids = now (ids .entry); frames = now (frames .entry); stated = now (stated .entry); disk = now (disk .entry) })) id ⌝ }
 {
-    FragmentationEntry {
-        id: m.ids[i],
-        frames: m.frames[i],
-        stated: m.stated[i],
-        disk: m.disk[i],
+    if 64 < count {
+        return Lookup::Refused;
     }
+    let k = told(*ids, *frames, *stated, *disk);
+    if ascending(ids, count) {
+        let i = place(ids, count, id);
+        if i < count {
+            if ids[i] == id {
+                return Lookup::Found(entry_at(ids, frames, stated, disk, i));
+            }
+        }
+        return Lookup::NoEntry;
+    }
+    Lookup::Refused
 }
 
 impl FragmentationMap {
@@ -82,17 +96,13 @@ impl FragmentationMap {
     pub fn get(self, id: u64) -> Lookup
         ensures { λ r. ⌜ r ≡ lookupOf self id ⌝ }
     {
-        if well_formed(self) {
-            let ids = self.ids;
-            let n = self.count;
-            let i = place(&ids, n, id);
-            if i < n {
-                if ids[i] == id {
-                    return Lookup::Found(entry_at(self, i));
-                }
-            }
-            return Lookup::NoEntry;
-        }
-        Lookup::Refused
+        find(
+            self.count,
+            &self.ids,
+            &self.frames,
+            &self.stated,
+            &self.disk,
+            id,
+        )
     }
 }

@@ -7,13 +7,13 @@ ghost use Rattle.garbage.specs.Maps.{Columns, rows, entriesOf, wellForme
 ghost use Rattle.garbage.specs.Columns.{Ready, Fine, Turned, state, foldOf, settled, coded, totalOf, sumsFit};
 ghost use Rattle.garbage.specs.Merges.{mergeAnswered, mergedOf};
 use crate::columns::add;
+use crate::columns::entry_at;
 use crate::columns::place;
 use crate::dropped::told;
 use crate::map::CountRefusal;
 use crate::map::Counted;
 use crate::map::FragmentationEntry;
 use crate::map::FragmentationMap;
-use crate::map::entry_at;
 use crate::map::well_formed;
 
 // The target holds the totals of both and the source is empty; refused, both are as they came in.
@@ -72,7 +72,8 @@ fn sums_fit(
 {
     let mut i = 0;
     while i < source.count {
-        if fits_on(n, ids, frames, stated, disk, entry_at(source, i)) {
+        let e = entry_at(&source.ids, &source.frames, &source.stated, &source.disk, i);
+        if fits_on(n, ids, frames, stated, disk, e) {
             i += 1;
         } else {
             return false;
@@ -116,7 +117,8 @@ fn add_all(
     let mut n = count;
     let mut i = 0;
     while i < source.count {
-        n = turn(n, ids, frames, stated, disk, entry_at(source, i));
+        let more = entry_at(&source.ids, &source.frames, &source.stated, &source.disk, i);
+        n = turn(n, ids, frames, stated, disk, more);
         i += 1;
     }
     n

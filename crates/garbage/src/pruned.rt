@@ -4,11 +4,11 @@ ghost use Prim.Native.Nat.{ℕ, _+_, _<_, _≤_};
 ghost use Rattle.garbage.specs.Maps.{Columns, columnsOf, entriesOf};
 ghost use Rattle.garbage.specs.Columns.{Whole, keptIn, state, holds};
 ghost use Rattle.garbage.specs.Merges.{listedIn, keptOf, prunedOf, staleBytesOf};
+use crate::columns::entry_at;
 use crate::columns::write;
 use crate::map::CountRefusal;
 use crate::map::FragmentationEntry;
 use crate::map::FragmentationMap;
-use crate::map::entry_at;
 use crate::map::well_formed;
 
 // MapFull: the map is malformed.
@@ -77,7 +77,8 @@ fn keep_all(
     let mut n = 0;
     let mut i = 0;
     while i < m.count {
-        n = keep(listing, n, ids, frames, stated, disk, entry_at(m, i));
+        let e = entry_at(&m.ids, &m.frames, &m.stated, &m.disk, i);
+        n = keep(listing, n, ids, frames, stated, disk, e);
         i += 1;
     }
     n

@@ -4,16 +4,17 @@ ghost use Prim.Native.Nat.{ℕ, _+_, _*_, _<_, _≤_};
 ghost use lib.ListN.{length, drop};
 ghost use lib.Seq.{sets};
 ghost use mathlib.Core.List.{[]};
-ghost use Rattle.garbage.specs.Maps.{Columns, entriesOf};
+ghost use Rattle.garbage.specs.Maps.{Columns, mapOf, rows};
 ghost use Rattle.garbage.specs.Columns.{Whole, Rising, state, holds, insteadOf};
 ghost use Rattle.garbage.specs.Stored.{entryBytes, entriesBytes, entryIn, entriesIn, insteadAll, storeAnswer, storeBytes, noneLoaded, someLoaded, loadOf};
+use crate::columns::ascending;
+use crate::columns::entry_at;
 use crate::columns::insert;
 use crate::columns::place;
 use crate::columns::write;
+use crate::dropped::told;
 use crate::map::FragmentationEntry;
 use crate::map::FragmentationMap;
-use crate::map::entry_at;
-use crate::map::well_formed;
 use numbers::bytes::get_u32;
 use numbers::bytes::get_u64;
 use numbers::bytes::put_u32;
@@ -68,15 +69,52 @@ fn get_entry(s: &[u8], at: usize) -> FragmentationEntry
     }
 }
 
-fn put_entries(m: FragmentationMap, buf: &mut [u8])
-    requires { ⌜ (m .count ≤ 64) × (4 + 28 * m .count ≤ length (now buf)) ⌝ }
-    ensures { λ _. ⌜ now (buf .exit) ≡ sets (now (buf .entry)) 4 (entriesBytes (entriesOf m)) ⌝ }
+// The first `n` entries, from 4 on.
+fn put_entries<'a>(
+    n: usize,
+    ids: &'a [u64; 64],
+    frames: &'a [u32; 64],
+    stated: &'a [u64; 64],
+    disk: &'a [u64; 64],
+    buf: &mut [u8],
+)
+    requires { ⌜ (n ≤ 64) × (4 + 28 * n ≤ length (now buf)) ⌝ }
+    ensures { λ _. ⌜ now (buf .exit)
+        ≡ sets (now (buf .entry)) 4 (entriesBytes (rows (record { ids = now (ids .entry); frames = now (frames .entry); stated = now (stated .entry); disk = now (disk .entry) }) 0 n)) ⌝ }
 {
     let mut i = 0;
-    while i < m.count {
-        put_entry(buf, 4 + 28 * i, entry_at(m, i));
+    while i < n {
+        put_entry(buf, 4 + 28 * i, entry_at(ids, frames, stated, disk, i));
         i += 1;
     }
+}
+
+// The stored form of any map whose columns are lent, at the front of `buf`.
+pub fn store_columns<'a>(
+    count: usize,
+    ids: &'a [u64; 64],
+    frames: &'a [u32; 64],
+    stated: &'a [u64; 64],
+    disk: &'a [u64; 64],
+    buf: &mut [u8],
+) -> Stored
+    ensures { λ r. ⌜ (r ≡ storeAnswer (mapOf count (record { ids = now (ids .entry); frames = now (frames .entry); stated = now (stated .entry); disk = now (disk .entry) })) (now (buf .entry)))
+        × (now (buf .exit) ≡ storeBytes (mapOf count (record { ids = now (ids .entry); frames = now (frames .entry); stated = now (stated .entry); disk = now (disk .entry) })) (now (buf .entry))) ⌝ }
+{
+    if 64 < count {
+        return Stored::Refused(StoreRefusal::MapFull);
+    }
+    let k = told(*ids, *frames, *stated, *disk);
+    if ascending(ids, count) {
+        let need = 4 + 28 * count;
+        if buf.len() < need {
+            return Stored::Refused(StoreRefusal::NoRoom);
+        }
+        put_u32(buf, 0, count as u32);
+        put_entries(count, ids, frames, stated, disk, buf);
+        return Stored::Used(need);
+    }
+    Stored::Refused(StoreRefusal::MapFull)
 }
 
 // An entry put at its id's place, instead of what stood there: the count after it.
@@ -161,17 +199,14 @@ impl FragmentationMap {
     pub fn store(self, buf: &mut [u8]) -> Stored
         ensures { λ r. ⌜ (r ≡ storeAnswer self (now (buf .entry))) × (now (buf .exit) ≡ storeBytes self (now (buf .entry))) ⌝ }
     {
-        if well_formed(self) {
-            let n = self.count;
-            let need = 4 + 28 * n;
-            if buf.len() < need {
-                return Stored::Refused(StoreRefusal::NoRoom);
-            }
-            put_u32(buf, 0, n as u32);
-            put_entries(self, buf);
-            return Stored::Used(need);
-        }
-        Stored::Refused(StoreRefusal::MapFull)
+        store_columns(
+            self.count,
+            &self.ids,
+            &self.frames,
+            &self.stated,
+            &self.disk,
+            buf,
+        )
     }
 
     // From the front of `s`; what follows is left.

@@ -1,4 +1,4 @@
--- `listed` is safe and ends: a turn takes a pointer, and the first 256 are kept.
+-- `listed` is safe and ends: a turn takes a pointer, and as many are kept as the list has room for.
 use borrow.Author.Needs.{needs}
 use Prim.Native.Nat.{_-_}
 use Rattle.calls.proofs.counts.listed.Statement.{statement}

@@ -1,8 +1,7 @@
 -- So far the columns are what the entries so far make of them.
-use Prim.Native.Nat.{ℕ, _+_, _-_, _≤_, _<_}
-use mathlib.Core.Path.{_≡_, refl, sym, _∙_, ap}
+use Prim.Native.Nat.{ℕ, _-_, _≤_}
+use mathlib.Core.Path.{_≡_, _∙_, ap}
 use native.Mathlib.Omega.{arith}
-use borrow.Author.Needs.{needs}
 use Rattle.garbage.specs.Maps.{Columns, columnsOf, rows}
 use Rattle.garbage.specs.Columns.{Fine, state, foldOf}
 use Rattle.garbage.proofs.Sound.{cols}
@@ -11,25 +10,25 @@ use Rattle.garbage.proofs.merged.add_all.Statement.{statement}
 use Rattle.garbage.proofs.merged.add_all.Tie as tie
 
 abbrev Inv-loop : tie.InvT-loop
-Inv-loop source count ids₀ frames₀ stated₀ disk₀ n₀ i₀ ids frames stated disk n i =
+Inv-loop count ids₀ frames₀ stated₀ disk₀ source n₀ i₀ ids frames stated disk n i =
     (i ≤ source .count)
     × Fine n (cols ids frames stated disk)
     × (state n (cols ids frames stated disk) ≡ foldOf (state count (cols ids₀ frames₀ stated₀ disk₀)) (rows (columnsOf source) 0 i))
 
 abbrev μ-loop : tie.MeasureT-loop
-μ-loop source count ids₀ frames₀ stated₀ disk₀ n₀ i₀ ids frames stated disk n i = source .count - i
+μ-loop count ids₀ frames₀ stated₀ disk₀ source n₀ i₀ ids frames stated disk n i = source .count - i
 
 abbrev col : tie.Start Inv-loop μ-loop → Columns
 col a = cols (a .args .ids .now) (a .args .frames .now) (a .args .stated .now) (a .args .disk .now)
 
 loop-holds : tie.Need-loop-holds Inv-loop μ-loop
-loop-holds c = (omega arith, c .pre .1, fold-none (state (c .args .count) (col c)) (columnsOf (c .args .source)))
+loop-holds c = (omega arith, c .pre .1, fold-none (state (c .args .count) (col c)) (columnsOf (c .args .t1)))
 
 entry-at-requires : tie.Need-entry-at-requires Inv-loop μ-loop
 entry-at-requires c κs = omega (arith, c .before .before .before .before .before .before .before .pre .0)
 
 turn-requires : tie.Need-turn-requires Inv-loop μ-loop
-turn-requires c κs = c .before .before .before .before .before .before .before .loop .inv .1
+turn-requires c κs = c .before .before .before .before .before .before .before .before .before .before .before .loop .inv .1
 
 add-i : tie.Need-add-i Inv-loop μ-loop
 add-i c = omega arith
@@ -39,19 +38,20 @@ loop-less c = omega arith
 
 loop-again : tie.Need-loop-again Inv-loop μ-loop
 loop-again c =
-    let a : tie.Start Inv-loop μ-loop = c .before .before .before .before .before .before .before .before .before in
-    let l = c .before .before .before .before .before .before .before .before .loop in (
-      omega arith,
+    let a : tie.Start Inv-loop μ-loop = c .before .before .before .before .before .before .before .before .before .before .before .before .before in
+    let l = c .before .before .before .before .before .before .before .before .before .before .before .before .loop in
+    let e = c .before .before .before .before .before .entry-at in (
+      omega (arith, c .before .before .before .before .before .before .before .before .before .before .before .loop-test),
       c .turn .ensures .fine,
-      fold-more (state (a .args .count) (col a)) (state (l .n) (cols (l .ids) (l .frames) (l .stated) (l .disk))) _ (columnsOf (a .args .source)) (l .i) (c .before .entry-at .result) (c .before .entry-at .ensures) (l .inv .2) (c .turn .ensures .is),
+      fold-more (state (a .args .count) (col a)) (state (l .n) (cols (l .ids) (l .frames) (l .stated) (l .disk))) _ (columnsOf (a .args .t1)) (l .i) (e .result) (e .ensures) (l .inv .2) (c .turn .ensures .is),
     )
 
 returns : tie.Need-returns Inv-loop μ-loop
 returns c =
-    let a : tie.Start Inv-loop μ-loop = c .before .before .before in
-    let l = c .before .before .loop in
-    let e : l .i ≡ a .args .source .count = omega (arith, c .if1 .left, l .inv .0) in
-    l .inv .2 ∙ ap (λ (k : ℕ). foldOf (state (a .args .count) (col a)) (rows (columnsOf (a .args .source)) 0 k)) e
+    let a : tie.Start Inv-loop μ-loop = c .before .before in
+    let l = c .before .loop in
+    let e : l .i ≡ a .args .t1 .count = omega (arith, l .inv .0) in
+    l .inv .2 ∙ ap (λ (k : ℕ). foldOf (state (a .args .count) (col a)) (rows (columnsOf (a .args .t1)) 0 k)) e
 
 pub add-all-spec : {M : Type 1} → statement M
 add-all-spec =

@@ -1,10 +1,9 @@
 -- What is left of the source fits exactly when all of it does, as long as each so far fitted.
 use Prim.Native.Nat.{ℕ, _+_, _-_, _≤_, _<_}
-use mathlib.Core.Path.{_≡_, refl, sym, _∙_, ap, ap₂}
-use mathlib.Core.Bool.{Bool, true, false, _&&_}
-use mathlib.Core.List.{List, [], _∷_}
+use mathlib.Core.Path.{_≡_, sym, _∙_, ap}
+use mathlib.Core.Bool.{Bool, true, _&&_}
+use mathlib.Core.List.{List}
 use native.Mathlib.Omega.{arith}
-use borrow.Author.Needs.{needs}
 use Rattle.garbage.specs.Entries.{Entry, fits, plus}
 use Rattle.garbage.specs.Maps.{Columns, columnsOf, entryAt, rows}
 use Rattle.garbage.specs.Columns.{totalOf, sumsFit}
@@ -13,13 +12,13 @@ use Rattle.garbage.proofs.merged.sums_fit.Statement.{statement}
 use Rattle.garbage.proofs.merged.sums_fit.Tie as tie
 
 abbrev Inv-loop : tie.InvT-loop
-Inv-loop source n ids frames stated disk i₀ i =
+Inv-loop n ids frames stated disk source i₀ i =
     (i ≤ source .count)
     × (sumsFit (rows (columnsOf source) i (source .count - i)) (rows (record { ids = ids; frames = frames; stated = stated; disk = disk }) 0 n)
     ≡ sumsFit (rows (columnsOf source) 0 (source .count)) (rows (record { ids = ids; frames = frames; stated = stated; disk = disk }) 0 n))
 
 abbrev μ-loop : tie.MeasureT-loop
-μ-loop source n ids frames stated disk i₀ i = source .count - i
+μ-loop n ids frames stated disk source i₀ i = source .count - i
 
 -- the first of what is left
 front : (s : Columns) (k i : ℕ) (l : List Entry) (e : Entry) (b : Bool) → i < k → e ≡ entryAt s i → b ≡ fits (plus (totalOf (e .id) l) e) → sumsFit (rows s i (k - i)) l ≡ (b && sumsFit (rows s (i + 1) (k - (i + 1))) l)
@@ -39,13 +38,13 @@ abbrev held : tie.Start Inv-loop μ-loop → List Entry
 held a = rows (record { ids = a .args .ids .now; frames = a .args .frames .now; stated = a .args .stated .now; disk = a .args .disk .now }) 0 (a .args .n)
 
 loop-holds : tie.Need-loop-holds Inv-loop μ-loop
-loop-holds c = (omega arith, begin (columnsOf (c .args .source)) (c .args .source .count) (held c))
+loop-holds c = (omega arith, begin (columnsOf (c .args .t1)) (c .args .t1 .count) (held c))
 
 entry-at-requires : tie.Need-entry-at-requires Inv-loop μ-loop
-entry-at-requires c κs = omega (arith, c .before .before .before .pre .0)
+entry-at-requires c κs = omega (arith, c .before .before .before .before .before .before .before .pre .0)
 
 fits-on-requires : tie.Need-fits-on-requires Inv-loop μ-loop
-fits-on-requires c κs = c .before .before .before .before .pre .1
+fits-on-requires c κs = c .before .before .before .before .before .before .before .before .pre .1
 
 add-i : tie.Need-add-i Inv-loop μ-loop
 add-i c = omega arith
@@ -55,26 +54,26 @@ loop-less c = omega arith
 
 loop-again : tie.Need-loop-again Inv-loop μ-loop
 loop-again c =
-    let a : tie.Start Inv-loop μ-loop = c .before .before .before .before .before .before in
-    let m = a .args .source in
-    let i = c .before .before .before .before .before .loop .i in (
+    let a : tie.Start Inv-loop μ-loop = c .before .before .before .before .before .before .before .before .before .before in
+    let m = a .args .t1 in
+    let i = c .before .before .before .before .before .before .before .before .before .loop .i in (
       omega arith,
-      sym (front (columnsOf m) (m .count) i (held a) (c .before .before .entry-at .result) (c .before .fits-on .result) (c .before .before .before .if1 .taken) (c .before .before .entry-at .ensures) (c .before .fits-on .ensures) ∙ ap (λ (b : Bool). b && sumsFit (rows (columnsOf m) (i + 1) (m .count - (i + 1))) (held a)) (c .if2 .taken))
-          ∙ c .before .before .before .before .before .loop .inv .1,
+      sym (front (columnsOf m) (m .count) i (held a) (c .before .before .entry-at .result) (c .before .fits-on .result) (omega arith) (c .before .before .entry-at .ensures) (c .before .fits-on .ensures) ∙ ap (λ (b : Bool). b && sumsFit (rows (columnsOf m) (i + 1) (m .count - (i + 1))) (held a)) (c .if1 .taken))
+          ∙ c .before .before .before .before .before .before .before .before .before .loop .inv .1,
     )
 
 returns : tie.Need-returns Inv-loop μ-loop
 returns c =
-    let a : tie.Start Inv-loop μ-loop = c .before .before .before .before .before .before in
-    let m = a .args .source in
-    let i = c .before .before .before .before .before .loop .i in
-    sym (sym (c .before .before .before .before .before .loop .inv .1) ∙ front (columnsOf m) (m .count) i (held a) (c .before .before .entry-at .result) (c .before .fits-on .result) (c .before .before .before .if1 .taken) (c .before .before .entry-at .ensures) (c .before .fits-on .ensures) ∙ ap (λ (b : Bool). b && sumsFit (rows (columnsOf m) (i + 1) (m .count - (i + 1))) (held a)) (c .if2 .left))
+    let a : tie.Start Inv-loop μ-loop = c .before .before .before .before .before .before .before .before .before .before in
+    let m = a .args .t1 in
+    let i = c .before .before .before .before .before .before .before .before .before .loop .i in
+    sym (sym (c .before .before .before .before .before .before .before .before .before .loop .inv .1) ∙ front (columnsOf m) (m .count) i (held a) (c .before .before .entry-at .result) (c .before .fits-on .result) (omega arith) (c .before .before .entry-at .ensures) (c .before .fits-on .ensures) ∙ ap (λ (b : Bool). b && sumsFit (rows (columnsOf m) (i + 1) (m .count - (i + 1))) (held a)) (c .if1 .left))
 
 returns-2 : tie.Need-returns-2 Inv-loop μ-loop
 returns-2 c =
-    let a : tie.Start Inv-loop μ-loop = c .before .before .before in
-    let m = a .args .source in
-    sym (sym (c .before .before .loop .inv .1) ∙ last (columnsOf m) (m .count) (c .before .before .loop .i) (held a) (c .if1 .left))
+    let a : tie.Start Inv-loop μ-loop = c .before .before in
+    let m = a .args .t1 in
+    sym (sym (c .before .loop .inv .1) ∙ last (columnsOf m) (m .count) (c .before .loop .i) (held a) (omega arith))
 
 pub sums-fit-spec : {M : Type 1} → statement M
 sums-fit-spec =
