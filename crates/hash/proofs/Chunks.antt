@@ -2,11 +2,10 @@
 use mathlib.Core.Path.{_≡_, refl, sym, ap, _∙_}
 use mathlib.Core.List.{List}
 use mathlib.Core.Logic.{⊎-elim}
-use Prim.Native.Nat.{ℕ, _+_, _-_, _*_, _/_, _%_, _^_, _≤_, _<_}
+use Prim.Native.Nat.{ℕ, _+_, _-_, _*_, _/_, _^_, _≤_, _<_}
 use native.Mathlib.Omega.{arith}
 use lib.ListN.{length, drop}
 use lib.Dec.{leb}
-use lib.Bits.{bitXor}
 use borrow.Author.Tests.{le-leb, lt-leb, lt-ltb, le-ltb}
 use Rattle.numbers.specs.Le.{num}
 use Rattle.numbers.specs.Pick.{pick}
@@ -14,23 +13,27 @@ use Rattle.hash.specs.Notation.{add64, sub64, mul64, u64s, forUp, forDow
 use Rattle.hash.specs.Secret.{seed, avalanche}
 use Rattle.hash.specs.Medium.{accMedium, mixStep, mixTwoChunks, roundInward, processInput-17to128, chunkOf128, avalancheBoth, chunkAfter128, processInput-129to240, XXH3-128-17to240}
 use Rattle.hash.specs.XXH3.{XXH3-128-17to128, XXH3-128-129to240}
-use Rattle.hash.specs.Shape.{foldOf, keyAt, mixHalf, mixKeyed, fourthOf, thirdOf, secondOf, chunkFrom}
+use Rattle.hash.specs.Shape.{keyAt, twoAt, mixTwo, mixKeyed, fourthOf, thirdOf, secondOf, chunkFrom}
 use Rattle.hash.specs.declared.Hash128.{Hash128}
 use Rattle.hash.specs.declared.medium.Acc.{Acc}
 use Rattle.hash.specs.declared.medium.Key.{Key}
+use Rattle.hash.specs.declared.medium.Two.{Two}
 use Rattle.hash.proofs.Cases.{le-or-lt}
 use Rattle.hash.proofs.Small.{first64, next64}
 
--- the words read at i and j are those of the two chunks
-pub mix-law : (s : List ℕ) (i j x y u v p q : ℕ) (k : Key) (acc : Acc) → x ≡ num 8 (drop i s) → y ≡ num 8 (drop (i + 8) s) → u ≡ num 8 (drop j s) → v ≡ num 8 (drop (j + 8) s)
-    → p ≡ mixHalf (acc .a0) x y (k .a) (k .b) u v → q ≡ mixHalf (acc .a1) u v (k .c) (k .d) x y
-    → _≡_ {A = Acc} (record { a0 = p; a1 = q }) (mixKeyed (u64s s i) (u64s s j) k acc)
-unfolding mixKeyed
-mix-law s i j x y u v p q k acc ex ey eu ev ep eq = rw (first64 s i, next64 s i, first64 s j, next64 s j, ← ex, ← ey, ← eu, ← ev, ep, eq)
+-- the words read from i on
+pub chunk-law : (s : List ℕ) (i x y : ℕ) → x ≡ num 8 (drop i s) → y ≡ num 8 (drop (i + 8) s) → _≡_ {A = Two} (record { x = x; y = y }) (twoAt s i)
+unfolding twoAt
+chunk-law s i x y ex ey = rw (first64 s i, next64 s i, ex, ey)
+
+-- two chunks of a string, mixed
+pub mixed-law : (s : List ℕ) (i j : ℕ) (p q : Two) (k : Key) (acc r : Acc) → p ≡ twoAt s i → q ≡ twoAt s j → r ≡ mixTwo p q k acc → r ≡ mixKeyed (u64s s i) (u64s s j) k acc
+unfolding twoAt mixKeyed
+mixed-law s i j p q k acc r ep eq e = rw (ep, eq) at e
 
 -- with the secret's words, the two chunks are mixed
 keyed : (x u : ℕ → ℕ) (o : ℕ) (acc : Acc) → mixKeyed x u (keyAt o) acc ≡ mixTwoChunks x u o seed acc
-unfolding mixKeyed keyAt mixTwoChunks mixStep
+unfolding mixKeyed mixTwo keyAt mixTwoChunks mixStep
 keyed x u o acc = refl
 
 module _ (s : List ℕ) where
@@ -98,7 +101,7 @@ module _ (s : List ℕ) where
       let q : b ≡ processInput-17to128 s (accMedium (length s)) = rw e₀ at (p ∙ sym (process-128 a₀ l h)) in
       rw q at e
 
-  onward : (i : ℕ) (k : Key) (acc r : Acc) → k ≡ keyAt (i * 32) → r ≡ mixKeyed (u64s s (i * 32)) (u64s s (i * 32 + 16)) k acc → r ≡ chunkOf128 s i acc
+  pub onward : (i : ℕ) (k : Key) (acc r : Acc) → k ≡ keyAt (i * 32) → r ≡ mixKeyed (u64s s (i * 32)) (u64s s (i * 32 + 16)) k acc → r ≡ chunkOf128 s i acc
   unfolding chunkOf128
   onward i k acc r ek e = e ∙ rw ek (keyed (u64s s (i * 32)) (u64s s (i * 32 + 16)) (i * 32) acc)
 
@@ -116,7 +119,7 @@ module _ (s : List ℕ) where
   unfolding chunkAfter128
   onto i k acc r ek e = e ∙ rw ek (keyed (u64s s (i * 32)) (u64s s (i * 32 + 16)) ((i - 4) * 32 + 3) acc)
 
-  after : (n i : ℕ) (k : Key) (acc r : Acc) → n ≤ length s → k ≡ keyAt ((i - 4) * 32 + 3) → r ≡ mixKeyed (u64s s (i * 32)) (u64s s (i * 32 + 16)) k acc → r ≡ chunkFrom s n i acc
+  pub after : (n i : ℕ) (k : Key) (acc r : Acc) → n ≤ length s → k ≡ keyAt ((i - 4) * 32 + 3) → r ≡ mixKeyed (u64s s (i * 32)) (u64s s (i * 32 + 16)) k acc → r ≡ chunkFrom s n i acc
   unfolding chunkFrom pick
   after n i k acc r h ek e = onto i k acc r ek e ∙ simp (le-ltb (length s) n h)
 

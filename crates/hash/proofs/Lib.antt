@@ -3,7 +3,10 @@ mod Bytes
 mod Cases
 mod Chunks
 mod Classes
+mod First
 mod Gather
+mod Joint
+mod JoinedRounds
 mod Loops
 mod Parts
 mod Seam

@@ -8,7 +8,7 @@ use lib.ListN.{take, drop}
 use lib.Seq.{drop-drop}
 use Rattle.numbers.specs.Le.{num}
 
-num-take : (n m : ℕ) (l : List ℕ) → n ≤ m → num n (take m l) ≡ num n l
+pub num-take : (n m : ℕ) (l : List ℕ) → n ≤ m → num n (take m l) ≡ num n l
 unfolding num
 num-take zero m l h = refl
 num-take (suc n) zero l h = absurd (not-suc-le-zero h)

@@ -6,13 +6,13 @@ use native.Mathlib.Nat.{le-refl}
 use native.Mathlib.Omega.{arith}
 use lib.ListN.{length, take, drop, length-drop}
 use lib.Seq.{drop-append-le, take-append-le, drop-append-add, take-take}
-use Rattle.hash.specs.Notation.{u64s, forUp}
+use Rattle.hash.specs.Notation.{u64s}
 use Rattle.hash.specs.Large.{accumulate}
 use Rattle.hash.specs.ShapeLong.{stripesOf}
 use Rattle.hash.proofs.Stripes.{stripe-same, stripes-same, stripes-plus}
 
 module _ (k v : List ℕ) where
-  before : (i n : ℕ) → i + n ≤ length k → take n (drop i k) ≡ take n (drop i (k ++ v))
+  pub before : (i n : ℕ) → i + n ≤ length k → take n (drop i k) ≡ take n (drop i (k ++ v))
   before i n h =
       sym (ap (take n) (drop-append-le i k v (omega arith)) ∙ take-append-le n (drop i k) v (omega (arith, length-drop i k)))
 
@@ -33,10 +33,6 @@ module _ (k v : List ℕ) where
         ∙ ap (λ (i : ℕ). stripesOf (k ++ v) i p 1 (stripesOf (k ++ v) 0 0 p x)) f
         ∙ ap (λ (t : ℕ). stripesOf (k ++ v) (0 + 64 * p) t 1 (stripesOf (k ++ v) 0 0 p x)) g
         ∙ sym (stripes-plus (k ++ v) 0 0 p 1 x)
-
-    pub crossing-first : p ≡ 0 → stripesOf b 0 0 1 x ≡ stripesOf (k ++ v) 0 0 (p + 1) x
-    unfolding forUp
-    crossing-first z = ap (λ (q : ℕ). stripesOf b 0 q 1 (stripesOf k 0 0 q x)) (sym z) ∙ with-crossing
 
   -- the stripes from the p-th on, in the second list
   pub in-second : (p n : ℕ) → length k ≤ 64 * p → p ≤ n → (x : List ℕ) → stripesOf v (64 * p - length k) p (n - p) (stripesOf (k ++ v) 0 0 p x) ≡ stripesOf (k ++ v) 0 0 n x

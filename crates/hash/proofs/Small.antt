@@ -1,7 +1,7 @@
 -- The words of the secret that the small inputs take, as the numbers that stand in the code; and the words of an input by where they begin.
 use mathlib.Core.Path.{_≡_, refl, sym, ap, _∙_}
 use mathlib.Core.List.{List}
-use Prim.Native.Nat.{ℕ, _+_, _-_, _*_, _%_, _^_, _≤_}
+use Prim.Native.Nat.{ℕ, _+_, _-_, _*_, _/_, _%_, _^_, _≤_}
 use native.Mathlib.Nat.{add-zero}
 use native.Mathlib.Omega.{arith}
 use lib.ListN.{length, drop}
@@ -61,8 +61,19 @@ module _ (s : List ℕ) where
   unfolding XXH3-128-9to16 mix9to16 end9to16
   open-16 = refl
 
-pub short-product : (v : ℕ) → mul64 (v % 2 ^ 32) PRIME32-2 ≡ v % 2 ^ 32 * PRIME32-2
-short-product v = omega arith
+-- the description's own simpler form of a sum: val2 whole, and its lower half once less
+add-twice : (h a b : ℕ) → add64 (add64 h a) b ≡ (h + (a + b)) % 2 ^ 64
+add-twice h a b = omega arith
+
+add-halves : (h a b : ℕ) → add64 (add64 h (a % 2 ^ 64)) (b % 2 ^ 64) ≡ (h + (a + b)) % 2 ^ 64
+add-halves h a b = omega arith
+
+whole-and-half : (v : ℕ) → v + v % 2 ^ 32 * 0x85ebca76 ≡ v / 2 ^ 32 * 2 ^ 32 + v % 2 ^ 32 * PRIME32-2
+whole-and-half v = omega arith
+
+pub val2-sum : (h v : ℕ) → add64 (add64 h v) (v % 2 ^ 32 * 0x85ebca76) ≡ add64 (add64 h (shl64 (v / 2 ^ 32) 32)) (mul64 (v % 2 ^ 32) PRIME32-2)
+val2-sum h v =
+    add-twice h v (v % 2 ^ 32 * 0x85ebca76) ∙ ap (λ (n : ℕ). (h + n) % 2 ^ 64) (whole-and-half v) ∙ sym (add-halves h (v / 2 ^ 32 * 2 ^ 32) (v % 2 ^ 32 * PRIME32-2))
 
 -- what the code computes is the description's
 module _ (s : List ℕ) where

@@ -1,9 +1,10 @@
 -- Definitions in the code's own shape, for the contracts of private functions; proofs/ ties each to the description's.
 use Prim.Native.Nat.{ℕ, _+_, _-_, _*_, _/_, _%_, _^_}
 use mathlib.Core.List.{List}
-use lib.ListN.{length}
-use lib.Bits.{bitXor}
+use lib.ListN.{length, drop}
+use lib.Bits.{bitXor, bitOr}
 use lib.Dec.{leb, ltb}
+use Rattle.numbers.specs.Le.{num}
 use Rattle.numbers.specs.Pick.{pick}
 use Rattle.numbers.specs.Wide.{bswap}
 use Rattle.hash.specs.Notation.{add64, sub64, mul64, shl64, u64s, PRIME32-2, PRIME64-1, PRIME64-2, PRIME-MX2}
@@ -12,6 +13,7 @@ use Rattle.hash.specs.Medium.{roundInward, chunkAfter128}
 use Rattle.hash.specs.declared.Hash128.{Hash128}
 use Rattle.hash.specs.declared.medium.Acc.{Acc}
 use Rattle.hash.specs.declared.medium.Key.{Key}
+use Rattle.hash.specs.declared.medium.Two.{Two}
 
 -- the halves of a product, mixed
 abbrev pub foldOf : ℕ → ℕ → ℕ
@@ -53,11 +55,24 @@ keyAt o = record {
 abbrev pub mixHalf : ℕ → ℕ → ℕ → ℕ → ℕ → ℕ → ℕ → ℕ
 mixHalf acc x y a b u v = bitXor (add64 acc (foldOf (bitXor x a) (bitXor y b))) (add64 u v)
 
-unfoldable pub mixKeyed : (ℕ → ℕ) → (ℕ → ℕ) → Key → Acc → Acc
-mixKeyed x u k acc = record {
-  a0 = mixHalf (acc .a0) (x 0) (x 1) (k .a) (k .b) (u 0) (u 1);
-  a1 = mixHalf (acc .a1) (u 0) (u 1) (k .c) (k .d) (x 0) (x 1);
+unfoldable pub mixTwo : Two → Two → Key → Acc → Acc
+mixTwo p q k acc = record {
+  a0 = mixHalf (acc .a0) (p .x) (p .y) (k .a) (k .b) (q .x) (q .y);
+  a1 = mixHalf (acc .a1) (q .x) (q .y) (k .c) (k .d) (p .x) (p .y);
 }
+
+unfoldable pub mixKeyed : (ℕ → ℕ) → (ℕ → ℕ) → Key → Acc → Acc
+mixKeyed x u = mixTwo (record { x = x 0; y = x 1 }) (record { x = u 0; y = u 1 })
+
+unfoldable pub twoAt : List ℕ → ℕ → Two
+twoAt s i = record { x = u64s s i 0; y = u64s s i 1 }
+
+-- key and value: the key's last eight bytes, or as many as it has, at the top of a word; and the word with d of them
+unfoldable pub endOf : List ℕ → ℕ
+endOf k = num 8 (drop (length k - 8) k) * 256 ^ (8 - length k)
+
+abbrev pub jointOf : ℕ → ℕ → ℕ → ℕ
+jointOf t h d = bitOr (t / 2 ^ (64 - 8 * d)) (h * 2 ^ (8 * d) % 2 ^ 64)
 
 -- 17-128 bytes: the rounds that not every length has
 unfoldable pub fourthOf : List ℕ → Acc → Acc

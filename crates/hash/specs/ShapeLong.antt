@@ -7,7 +7,7 @@ use lib.Dec.{eqb}
 use Rattle.numbers.specs.Pick.{pick}
 use Rattle.hash.specs.Notation.{add64, u64s, forUp}
 use Rattle.hash.specs.Secret.{secret}
-use Rattle.hash.specs.Large.{accumulate, accumulateLane, round-scramble}
+use Rattle.hash.specs.Large.{accLarge, accumulate, accumulateLane, round-scramble}
 use Rattle.hash.specs.Shape.{foldOf}
 
 -- lane i with its word d of the stripe and its word x of the secret
@@ -20,6 +20,10 @@ laneOf i d x acc =
 -- the eight lanes, with the words of s from i on and those of w from o on
 abbrev pub lanesOf : List ℕ → ℕ → List ℕ → ℕ → List ℕ → List ℕ
 lanesOf s i w o = forUp 8 (accumulateLane (u64s s i) (u64s w o))
+
+-- the first n lanes of the first stripe
+abbrev pub firstLanes : List ℕ → ℕ → List ℕ
+firstLanes s n = forUp n (accumulateLane (u64s s 0) (u64s secret 0)) accLarge
 
 -- the secret's first 176 bytes, and the 176 from its 8th on
 unfoldable pub twice : List ℕ

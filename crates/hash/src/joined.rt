@@ -6,28 +6,60 @@ ghost use lib.ListN.{length, take, drop};
 ghost use Rattle.hash.specs.Notation.{u64s};
 ghost use Rattle.hash.specs.Secret.{secretLength};
 ghost use Rattle.hash.specs.Large.{accLarge, accumulate};
-ghost use Rattle.hash.specs.ShapeLong.{stripesOf};
+ghost use Rattle.numbers.specs.Le.{num};
+ghost use Rattle.hash.specs.Shape.{endOf};
+ghost use Rattle.hash.specs.ShapeLong.{firstLanes, stripesOf};
 ghost use Rattle.hash.specs.XXH3.{xxh3-128};
 use super::Hash128;
+use super::border::end;
+use super::border::front;
+use super::border::head;
 use super::long;
-use super::over_128;
+use super::rounds::from_17_to_128;
+use super::rounds::from_129_to_240;
 use super::xxh3_128;
 use numbers::bytes::copy;
+use numbers::bytes::room;
 
-// Up to 240 bytes, gathered.
-pub(crate) fn gathered(key: &[u8], value: &[u8]) -> Hash128
-    requires { ⌜ length (now key) + length (now value) ≤ 240 ⌝ }
+// Up to 16 bytes, gathered.
+fn gathered(key: &[u8], value: &[u8]) -> Hash128
+    requires { ⌜ length (now key) + length (now value) ≤ 16 ⌝ }
     ensures { λ r. ⌜ r ≡ xxh3-128 (now (key .entry) ++ now (value .entry)) ⌝ }
 {
-    let mut buf = [0u8; 240];
+    let mut buf = [0u8; 16];
     let m = key.len();
     let n = m + value.len();
     copy(&mut buf, 0, key);
     copy(&mut buf, m, value);
-    if n <= 128 {
-        return xxh3_128(&buf[..n]);
+    xxh3_128(&buf[..n])
+}
+
+pub(crate) fn upto_128(key: &[u8], value: &[u8]) -> Hash128
+    requires { ⌜ (0 < length (now key)) × (length (now key) + length (now value) ≤ 128) ⌝ }
+    ensures { λ r. ⌜ r ≡ xxh3-128 (now (key .entry) ++ now (value .entry)) ⌝ }
+{
+    if key.len() + value.len() <= 16 {
+        return gathered(key, value);
     }
-    over_128(&buf[..n])
+    from_17_to_128(key, value, end(key), head(value))
+}
+
+pub(crate) fn over_128(key: &[u8], value: &[u8]) -> Hash128
+    requires { ⌜ 128 < length (now key) + length (now value) ⌝ }
+    ensures { λ r. ⌜ r ≡ xxh3-128 (now (key .entry) ++ now (value .entry)) ⌝ }
+{
+    let m = key.len();
+    let n = value.len();
+    if n == 0 {
+        return super::over_128(&key[..m]);
+    }
+    if m == 0 {
+        return super::over_128(&value[..n]);
+    }
+    if n <= room(240, m) {
+        return from_129_to_240(key, value, end(key), head(value));
+    }
+    over_240(key, value)
 }
 
 // The 64 bytes from i on, of which the first stand in key.
@@ -42,26 +74,60 @@ fn across(key: &[u8], value: &[u8], i: usize) -> [u8; 64]
     buf
 }
 
+// Four lanes of the first stripe, and all eight.
+fn first_half(key: &[u8], value: &[u8], t: u64, h: u64) -> [u64; 8]
+    requires { ⌜ (64 ≤ length (now key) + length (now value)) × (t ≡ endOf (now key)) × (h ≡ num 8 (now value)) ⌝ }
+    ensures { λ r. ⌜ r ≡ firstLanes (now (key .entry) ++ now (value .entry)) 4 ⌝ }
+{
+    let r = [
+        0xc2b2_ae3d,
+        0x9e37_79b1_85eb_ca87,
+        0xc2b2_ae3d_27d4_eb4f,
+        0x1656_67b1_9e37_79f9,
+        0x85eb_ca77_c2b2_ae63,
+        0x85eb_ca77,
+        0x27d4_eb2f_1656_67c5,
+        0x9e37_79b1,
+    ];
+    let a = front(key, value, 0, t, h);
+    let q = long::two_lanes(r, 0, a, 0xbe4b_a423_396c_feb8, 0x1cad_21f7_2c81_017c);
+    let b = front(key, value, 16, t, h);
+    long::two_lanes(q, 2, b, 0xdb97_9083_e96d_d4de, 0x1f67_b3b7_a4a4_4072)
+}
+
+fn first(key: &[u8], value: &[u8], t: u64, h: u64) -> [u64; 8]
+    requires { ⌜ (64 ≤ length (now key) + length (now value)) × (t ≡ endOf (now key)) × (h ≡ num 8 (now value)) ⌝ }
+    ensures { λ r. ⌜ r ≡ stripesOf (now (key .entry) ++ now (value .entry)) 0 0 1 accLarge ⌝ }
+{
+    let r = first_half(key, value, t, h);
+    let a = front(key, value, 32, t, h);
+    let q = long::two_lanes(r, 4, a, 0x78e5_c0cc_4ee6_79cb, 0x2172_ffcc_7dd0_5a82);
+    let b = front(key, value, 48, t, h);
+    long::two_lanes(q, 6, b, 0x8e24_43f7_7446_08b8, 0x4c26_3a81_e690_35e0)
+}
+
 // The stripes that begin in key, p of them whole, with the one that crosses to value.
 fn border(key: &[u8], value: &[u8], p: usize) -> [u64; 8]
     requires { ⌜ (p ≡ length (now key) / 64) × (64 * (p + 1) ≤ length (now key) + length (now value)) ⌝ }
     ensures { λ r. ⌜ r ≡ stripesOf (now (key .entry) ++ now (value .entry)) 0 0 (p + 1) accLarge ⌝ }
 {
     let b = across(key, value, 64 * p);
-    if p == 0 {
-        return long::begin(&b, 1);
-    }
     long::go_on(long::begin(key, p), &b, 0, p, 1)
 }
 
+// A first stripe that crosses is read by words.
 fn stripes(key: &[u8], value: &[u8]) -> [u64; 8]
-    requires { ⌜ 240 < length (now key) + length (now value) ⌝ }
+    requires { ⌜ (0 < length (now key)) × (240 < length (now key) + length (now value)) ⌝ }
     ensures { λ r. ⌜ r ≡ stripesOf (now (key .entry) ++ now (value .entry)) 0 0 ((length (now (key .entry)) + length (now (value .entry)) - 1) / 64) accLarge ⌝ }
 {
     let m = key.len();
     let v = value.len();
     let p = m / 64;
     let n = (m + v - 1) / 64;
+    if p == 0 {
+        let r = first(key, value, end(key), head(value));
+        return long::go_on(r, &value[..v], 64 - m, 1, n - 1);
+    }
     if n <= p {
         return long::begin(key, n);
     }
@@ -81,8 +147,8 @@ fn last(acc: [u64; 8], key: &[u8], value: &[u8]) -> [u64; 8]
     long::last(acc, &b, 0)
 }
 
-pub(crate) fn over_240(key: &[u8], value: &[u8]) -> Hash128
-    requires { ⌜ 240 < length (now key) + length (now value) ⌝ }
+fn over_240(key: &[u8], value: &[u8]) -> Hash128
+    requires { ⌜ (0 < length (now key)) × (240 < length (now key) + length (now value)) ⌝ }
     ensures { λ r. ⌜ r ≡ xxh3-128 (now (key .entry) ++ now (value .entry)) ⌝ }
 {
     let n = (key.len() + value.len()) as u64;

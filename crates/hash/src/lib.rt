@@ -4,11 +4,12 @@ ghost use mathlib.Core.List.{_++_};
 ghost use Prim.Native.Nat.{_<_};
 ghost use lib.ListN.{length};
 ghost use Rattle.hash.specs.XXH3.{xxh3-128};
-use numbers::bytes::room;
 
+mod border;
 mod joined;
 mod long;
 mod medium;
+mod rounds;
 mod short;
 mod words;
 
@@ -18,7 +19,8 @@ pub struct Hash128 {
     pub high: u64,
 }
 
-// A slice handed on is made anew, `&s[..n]`: its two words then stay in registers, and no 16 bytes are loaded that two stores wrote.
+// A slice handed on is made anew, `&s[..n]`: its two words then stay in registers, and no 16 bytes are loaded that two stores wrote. What
+// a callee hands back is taken apart and made anew: the result of a short input then goes straight to its place.
 pub fn xxh3_128(s: &[u8]) -> Hash128
     ensures { λ r. ⌜ r ≡ xxh3-128 (now (s .entry)) ⌝ }
 {
@@ -29,7 +31,11 @@ pub fn xxh3_128(s: &[u8]) -> Hash128
     if n <= 128 {
         return medium::from_17_to_128(s);
     }
-    over_128(&s[..n])
+    let h = over_128(&s[..n]);
+    Hash128 {
+        low: h.low,
+        high: h.high,
+    }
 }
 
 fn over_128(s: &[u8]) -> Hash128
@@ -47,14 +53,19 @@ fn over_128(s: &[u8]) -> Hash128
 pub fn xxh3_128_joined(key: &[u8], value: &[u8]) -> Hash128
     ensures { λ r. ⌜ r ≡ xxh3-128 (now (key .entry) ++ now (value .entry)) ⌝ }
 {
-    if value.len() == 0 {
-        return xxh3_128(key);
+    let m = key.len();
+    let n = value.len();
+    if 128 < m {
+        return joined::over_128(&key[..m], &value[..n]);
     }
-    if key.len() == 0 {
-        return xxh3_128(value);
+    if 128 - m < n {
+        return joined::over_128(&key[..m], &value[..n]);
     }
-    if value.len() <= room(240, key.len()) {
-        return joined::gathered(key, value);
+    if n == 0 {
+        return xxh3_128(&key[..m]);
     }
-    joined::over_240(key, value)
+    if m == 0 {
+        return xxh3_128(&value[..n]);
+    }
+    joined::upto_128(key, value)
 }

@@ -7,6 +7,7 @@ ghost use Rattle.hash.specs.Secret.{secretLength};
 ghost use Rattle.hash.specs.Large.{accLarge, accumulate, round-scramble, finalMerge, XXH3-128-large};
 ghost use Rattle.hash.specs.ShapeLong.{placeOf, laneOf, lanesOf, blockEnd, stripesOf, pairOf};
 use super::Hash128;
+use super::medium::Two;
 use super::words::avalanche;
 use super::words::fold;
 use super::words::read64;
@@ -411,6 +412,14 @@ fn lane(acc: [u64; 8], k: usize, d: u64, x: u64) -> [u64; 8]
     r[k ^ 1] = wrapping_add_u64(r[k ^ 1], d);
     r[k] = wrapping_add_u64(r[k], (v % 0x1_0000_0000) * (v >> 32));
     r
+}
+
+// Lanes k and k + 1, with the words of p, and the words x and y of the secret.
+pub(crate) fn two_lanes(acc: [u64; 8], k: usize, p: Two, x: u64, y: u64) -> [u64; 8]
+    requires { ⌜ k < 7 ⌝ }
+    ensures { λ r. ⌜ r ≡ laneOf (k + 1) (p .y) y (laneOf k (p .x) x acc) ⌝ }
+{
+    lane(lane(acc, k, p.x, x), k + 1, p.y, y)
 }
 
 // One stripe: the 64 bytes of s from i on, the words of w from o on.

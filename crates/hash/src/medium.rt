@@ -4,7 +4,7 @@ ghost use Prim.Native.Nat.{_+_, _<_, _≤_};
 ghost use lib.ListN.{length};
 ghost use Rattle.hash.specs.Notation.{u64s, add64, sub64, mul64, forUp, PRIME64-1, PRIME64-2, PRIME64-4};
 ghost use Rattle.hash.specs.Medium.{accMedium, avalancheBoth, chunkOf128, XXH3-128-17to240};
-ghost use Rattle.hash.specs.Shape.{keyAt, mixHalf, mixKeyed, fourthOf, thirdOf, secondOf, chunkFrom};
+ghost use Rattle.hash.specs.Shape.{keyAt, mixHalf, twoAt, mixTwo, mixKeyed, fourthOf, thirdOf, secondOf, chunkFrom};
 ghost use Rattle.hash.specs.XXH3.{XXH3-128-17to128, XXH3-128-129to240};
 use super::Hash128;
 use super::words::avalanche;
@@ -20,6 +20,12 @@ pub struct Acc {
     pub a1: u64,
 }
 
+// 16 bytes as two words.
+pub struct Two {
+    pub x: u64,
+    pub y: u64,
+}
+
 // Four words of the secret.
 pub struct Key {
     pub a: u64,
@@ -28,7 +34,7 @@ pub struct Key {
     pub d: u64,
 }
 
-fn key_0() -> Key
+pub(crate) fn key_0() -> Key
     ensures { λ r. ⌜ r ≡ keyAt 0 ⌝ }
 {
     Key {
@@ -39,7 +45,7 @@ fn key_0() -> Key
     }
 }
 
-fn key_32() -> Key
+pub(crate) fn key_32() -> Key
     ensures { λ r. ⌜ r ≡ keyAt 32 ⌝ }
 {
     Key {
@@ -50,7 +56,7 @@ fn key_32() -> Key
     }
 }
 
-fn key_64() -> Key
+pub(crate) fn key_64() -> Key
     ensures { λ r. ⌜ r ≡ keyAt 64 ⌝ }
 {
     Key {
@@ -61,7 +67,7 @@ fn key_64() -> Key
     }
 }
 
-fn key_96() -> Key
+pub(crate) fn key_96() -> Key
     ensures { λ r. ⌜ r ≡ keyAt 96 ⌝ }
 {
     Key {
@@ -72,7 +78,7 @@ fn key_96() -> Key
     }
 }
 
-fn key_3() -> Key
+pub(crate) fn key_3() -> Key
     ensures { λ r. ⌜ r ≡ keyAt 3 ⌝ }
 {
     Key {
@@ -83,7 +89,7 @@ fn key_3() -> Key
     }
 }
 
-fn key_35() -> Key
+pub(crate) fn key_35() -> Key
     ensures { λ r. ⌜ r ≡ keyAt 35 ⌝ }
 {
     Key {
@@ -94,7 +100,7 @@ fn key_35() -> Key
     }
 }
 
-fn key_67() -> Key
+pub(crate) fn key_67() -> Key
     ensures { λ r. ⌜ r ≡ keyAt 67 ⌝ }
 {
     Key {
@@ -105,7 +111,7 @@ fn key_67() -> Key
     }
 }
 
-fn key_103() -> Key
+pub(crate) fn key_103() -> Key
     ensures { λ r. ⌜ r ≡ keyAt 103 ⌝ }
 {
     Key {
@@ -123,22 +129,36 @@ fn mix_half(acc: u64, x: u64, y: u64, a: u64, b: u64, u: u64, v: u64) -> u64
     wrapping_add_u64(acc, fold(x ^ a, y ^ b)) ^ wrapping_add_u64(u, v)
 }
 
-// 16 bytes from i on and 16 from j on, with four words of the secret.
+// 16 bytes of s from i on.
+pub(crate) fn chunk(s: &[u8], i: usize) -> Two
+    requires { ⌜ i + 16 ≤ length (now s) ⌝ }
+    ensures { λ r. ⌜ r ≡ twoAt (now (s .entry)) i ⌝ }
+{
+    Two {
+        x: read64(s, i),
+        y: read64(s, i + 8),
+    }
+}
+
+// Two times 16 bytes, with four words of the secret.
+pub(crate) fn mixed(acc: Acc, p: Two, q: Two, k: Key) -> Acc
+    ensures { λ r. ⌜ r ≡ mixTwo p q k acc ⌝ }
+{
+    Acc {
+        a0: mix_half(acc.a0, p.x, p.y, k.a, k.b, q.x, q.y),
+        a1: mix_half(acc.a1, q.x, q.y, k.c, k.d, p.x, p.y),
+    }
+}
+
+// 16 bytes from i on and 16 from j on.
 fn mix(acc: Acc, s: &[u8], i: usize, j: usize, k: Key) -> Acc
     requires { ⌜ (i + 16 ≤ length (now s)) × (j + 16 ≤ length (now s)) ⌝ }
     ensures { λ r. ⌜ r ≡ mixKeyed (u64s (now (s .entry)) i) (u64s (now (s .entry)) j) k acc ⌝ }
 {
-    let x = read64(s, i);
-    let y = read64(s, i + 8);
-    let u = read64(s, j);
-    let v = read64(s, j + 8);
-    Acc {
-        a0: mix_half(acc.a0, x, y, k.a, k.b, u, v),
-        a1: mix_half(acc.a1, u, v, k.c, k.d, x, y),
-    }
+    mixed(acc, chunk(s, i), chunk(s, j), k)
 }
 
-fn start(n: u64) -> Acc
+pub(crate) fn start(n: u64) -> Acc
     ensures { λ r. ⌜ r ≡ accMedium n ⌝ }
 {
     Acc {
@@ -165,7 +185,7 @@ fn negated(x: u64) -> u64
     wrapping_sub_u64(0, x)
 }
 
-fn finish(acc: Acc, n: u64) -> Hash128
+pub(crate) fn finish(acc: Acc, n: u64) -> Hash128
     ensures { λ r. ⌜ r ≡ XXH3-128-17to240 n acc ⌝ }
 {
     Hash128 {
@@ -232,7 +252,7 @@ fn second_half(acc: Acc, s: &[u8]) -> Acc
     mix(mix(acc, s, 64, 80, key_64()), s, 96, 112, key_96())
 }
 
-fn stir(acc: Acc) -> Acc
+pub(crate) fn stir(acc: Acc) -> Acc
     ensures { λ r. ⌜ r ≡ avalancheBoth acc ⌝ }
 {
     Acc {

@@ -104,8 +104,8 @@ fn mix_9_to_16(x: u64, v: u64, n: u64) -> Hash128
     ensures { λ r. ⌜ r ≡ mix9to16 (x * 0x9e3779b185ebca87) v n ⌝ }
 {
     let l = wrapping_add_u64(wrapping_mul(x, 0x9e37_79b1_85eb_ca87), (n - 1) << 54);
-    let h = wrapping_add_u64(high_product(x, 0x9e37_79b1_85eb_ca87), (v >> 32) << 32);
-    end_9_to_16(l, wrapping_add_u64(h, (v % 0x1_0000_0000) * 0x85eb_ca77))
+    let h = wrapping_add_u64(high_product(x, 0x9e37_79b1_85eb_ca87), v);
+    end_9_to_16(l, wrapping_add_u64(h, (v % 0x1_0000_0000) * 0x85eb_ca76))
 }
 
 fn from_9_to_16(s: &[u8]) -> Hash128

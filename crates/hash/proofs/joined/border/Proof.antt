@@ -1,8 +1,7 @@
 -- The stripes in key and the one across are the joined string's (with-crossing).
-use mathlib.Core.Path.{_∙_}
 use native.Mathlib.Omega.{arith}
 use Rattle.hash.specs.Large.{accLarge}
-use Rattle.hash.proofs.Seam.{with-crossing, crossing-first}
+use Rattle.hash.proofs.Seam.{with-crossing}
 use borrow.Author.Needs.{needs}
 use Rattle.hash.proofs.joined.border.Statement.{statement}
 use Rattle.hash.proofs.joined.border.Tie as tie
@@ -13,17 +12,8 @@ mul-across c = search needs
 across-requires : tie.Need-across-requires
 across-requires c κs = search needs
 
-slice-aggregate-begin : tie.Need-slice-aggregate-begin
-slice-aggregate-begin c = search needs
-
 begin-requires : tie.Need-begin-requires
 begin-requires c κs = search needs
-
-returns : tie.Need-returns
-returns c = let a = c .before .before .before .before .before .before .args in c .begin .ensures ∙ crossing-first (a .key .now) (a .value .now) _ (a .p) (c .before .before .before .across .ensures) (omega arith) accLarge (c .before .before .if1 .taken)
-
-begin-requires-2 : tie.Need-begin-requires-2
-begin-requires-2 c κs = search needs
 
 slice-aggregate-go-on : tie.Need-slice-aggregate-go-on
 slice-aggregate-go-on c = search needs
@@ -31,8 +21,8 @@ slice-aggregate-go-on c = search needs
 go-on-requires : tie.Need-go-on-requires
 go-on-requires c κs = search needs
 
-returns-2 : tie.Need-returns-2
-returns-2 c = let a = c .before .before .before .before .before .before .before .args in cc (with-crossing (a .key .now) (a .value .now) _ (a .p) (c .before .before .before .before .across .ensures) (omega arith) accLarge)
+returns : tie.Need-returns
+returns c = let a = c .before .before .before .before .before .before .args in cc (with-crossing (a .key .now) (a .value .now) _ (a .p) (c .before .before .before .across .ensures) (omega arith) accLarge)
 
 pub border-spec : {M : Type 1} → statement M
 border-spec =
@@ -40,10 +30,7 @@ border-spec =
     (tie.spec
     mul-across
     across-requires
-    slice-aggregate-begin
     begin-requires
-    returns
-    begin-requires-2
     slice-aggregate-go-on
     go-on-requires
-    returns-2)
+    returns)

@@ -2,7 +2,6 @@
 use mathlib.Core.Path.{_≡_, refl, sym, ap, _∙_}
 use mathlib.Core.List.{List, _++_}
 use Prim.Native.Nat.{ℕ, _+_}
-use native.Mathlib.Omega.{arith}
 use lib.ListN.{length, take, replicate, length-append}
 use Rattle.hash.specs.XXH3.{xxh3-128}
 use Rattle.hash.proofs.Gather.{gathered}
@@ -19,7 +18,7 @@ value-of c = c .before .before .before .before .before .before .before .before .
 
 stored : (c : tie.After-buf4) → take (length (key-of c) + length (value-of c)) (c .before .copy2 .last .0) ≡ key-of c ++ value-of c
 stored c =
-    gathered (replicate 240 0) _ _ (key-of c) (value-of c) (length (key-of c)) (c .before .before .before .before .copy .ensures) (c .before .copy2 .ensures)
+    gathered (replicate 16 0) _ _ (key-of c) (value-of c) (length (key-of c)) (c .before .before .before .before .copy .ensures) (c .before .copy2 .ensures)
     (length (key-of c) + length (value-of c)) refl refl (c .before .before .before .before .before .before .before .before .pre)
 
 length-stored : (c : tie.After-buf4) → length (take (length (key-of c) + length (value-of c)) (c .before .copy2 .last .0)) ≡ length (key-of c) + length (value-of c)
@@ -44,25 +43,13 @@ array-share-prefix-buf : tie.Need-array-share-prefix-buf
 array-share-prefix-buf c = search needs
 
 slice-aggregate-xxh3-128 : tie.Need-slice-aggregate-xxh3-128
-slice-aggregate-xxh3-128 c = sym (length-stored (c .before .before))
+slice-aggregate-xxh3-128 c = sym (length-stored (c .before))
 
 xxh3-128-requires : tie.Need-xxh3-128-requires
 xxh3-128-requires c κs = search needs
 
 returns : tie.Need-returns
-returns c = c .xxh3-128 .ensures ∙ ap xxh3-128 (stored (c .before .before .before))
-
-array-share-prefix-buf-2 : tie.Need-array-share-prefix-buf-2
-array-share-prefix-buf-2 c = search needs
-
-slice-aggregate-over-128 : tie.Need-slice-aggregate-over-128
-slice-aggregate-over-128 c = sym (length-stored (c .before .before))
-
-over-128-requires : tie.Need-over-128-requires
-over-128-requires c κs = omega (arith, length-stored (c .before .before))
-
-returns-2 : tie.Need-returns-2
-returns-2 c = c .over-128 .ensures ∙ ap xxh3-128 (stored (c .before .before .before))
+returns c = c .xxh3-128 .ensures ∙ ap xxh3-128 (stored (c .before .before))
 
 pub gathered-spec : {M : Type 1} → statement M
 gathered-spec =
@@ -76,8 +63,4 @@ gathered-spec =
     array-share-prefix-buf
     slice-aggregate-xxh3-128
     xxh3-128-requires
-    returns
-    array-share-prefix-buf-2
-    slice-aggregate-over-128
-    over-128-requires
-    returns-2)
+    returns)
