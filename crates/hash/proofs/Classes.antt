@@ -76,6 +76,9 @@ module _ (s : List ℕ) where
   pub whole-more : (n : ℕ) → n < length s → n < length (take (length s) s)
   whole-more n h = omega (arith, whole-length)
 
+  pub whole-upto : (n : ℕ) → length s ≤ n → length (take (length s) s) ≤ n
+  whole-upto n h = omega (arith, whole-length)
+
   pub whole : (r : Hash128) → r ≡ xxh3-128 (take (length s) s) → r ≡ xxh3-128 s
   whole r e = e ∙ ap xxh3-128 (take-length s)
 

@@ -17,7 +17,7 @@ use super::border::head;
 use super::long;
 use super::rounds::from_17_to_128;
 use super::rounds::from_129_to_240;
-use super::xxh3_128;
+use super::short::upto_16;
 use numbers::bytes::copy;
 use numbers::bytes::room;
 
@@ -31,7 +31,7 @@ fn gathered(key: &[u8], value: &[u8]) -> Hash128
     let n = m + value.len();
     copy(&mut buf, 0, key);
     copy(&mut buf, m, value);
-    xxh3_128(&buf[..n])
+    upto_16(&buf[..n])
 }
 
 pub(crate) fn upto_128(key: &[u8], value: &[u8]) -> Hash128

@@ -1,14 +1,18 @@
 -- Each length falls in one case.
-use Rattle.hash.proofs.Classes.{is-240, whole-length, whole-more, whole-large}
+use native.Mathlib.Omega.{arith}
+use Rattle.hash.proofs.Classes.{whole-length, whole-upto, whole-more, whole, whole-large}
 use borrow.Author.Needs.{needs}
 use Rattle.hash.proofs.over_128.Statement.{statement}
 use Rattle.hash.proofs.over_128.Tie as tie
 
-from-129-to-240-requires : tie.Need-from-129-to-240-requires
-from-129-to-240-requires c κs = search needs
+slice-aggregate-upto-240 : tie.Need-slice-aggregate-upto-240
+slice-aggregate-upto-240 c = search (needs, whole-length)
+
+upto-240-requires : tie.Need-upto-240-requires
+upto-240-requires c κs = let a = c .before .before .before .args in (whole-more (a .s .now) 16 (omega arith), search (needs, whole-upto))
 
 returns : tie.Need-returns
-returns c = search (needs, is-240)
+returns c = search (needs, whole)
 
 slice-aggregate-over-240 : tie.Need-slice-aggregate-over-240
 slice-aggregate-over-240 c = search (needs, whole-length)
@@ -23,7 +27,8 @@ pub over-128-spec : {M : Type 1} → statement M
 over-128-spec =
     tie.close
     (tie.spec
-    from-129-to-240-requires
+    slice-aggregate-upto-240
+    upto-240-requires
     returns
     slice-aggregate-over-240
     over-240-requires

@@ -1,38 +1,46 @@
 -- Each length falls in one case.
-use Rattle.hash.proofs.Classes.{is-128, whole-length, whole-more, whole}
+use Rattle.hash.proofs.Classes.{whole-length, whole-upto, whole-more, whole, whole-large}
 use borrow.Author.Needs.{needs}
 use Rattle.hash.proofs.xxh3_128.Statement.{statement}
 use Rattle.hash.proofs.xxh3_128.Tie as tie
 
+slice-aggregate-upto-16 : tie.Need-slice-aggregate-upto-16
+slice-aggregate-upto-16 c = search (needs, whole-length)
+
 upto-16-requires : tie.Need-upto-16-requires
-upto-16-requires c κs = search needs
+upto-16-requires c κs = search (needs, whole-upto)
 
 returns : tie.Need-returns
-returns c = search needs
+returns c = search (needs, whole)
 
-from-17-to-128-requires : tie.Need-from-17-to-128-requires
-from-17-to-128-requires c κs = search needs
+slice-aggregate-upto-240 : tie.Need-slice-aggregate-upto-240
+slice-aggregate-upto-240 c = search (needs, whole-length)
+
+upto-240-requires : tie.Need-upto-240-requires
+upto-240-requires c κs = (search (needs, whole-more), search (needs, whole-upto))
 
 returns-2 : tie.Need-returns-2
-returns-2 c = search (needs, is-128)
+returns-2 c = search (needs, whole)
 
-slice-aggregate-over-128 : tie.Need-slice-aggregate-over-128
-slice-aggregate-over-128 c = search (needs, whole-length)
+slice-aggregate-over-240 : tie.Need-slice-aggregate-over-240
+slice-aggregate-over-240 c = search (needs, whole-length)
 
-over-128-requires : tie.Need-over-128-requires
-over-128-requires c κs = search (needs, whole-more)
+over-240-requires : tie.Need-over-240-requires
+over-240-requires c κs = search (needs, whole-more)
 
 returns-3 : tie.Need-returns-3
-returns-3 c = search (needs, whole)
+returns-3 c = search (needs, whole-large)
 
 pub xxh3-128-spec : {M : Type 1} → statement M
 xxh3-128-spec =
     tie.close
     (tie.spec
+    slice-aggregate-upto-16
     upto-16-requires
     returns
-    from-17-to-128-requires
+    slice-aggregate-upto-240
+    upto-240-requires
     returns-2
-    slice-aggregate-over-128
-    over-128-requires
+    slice-aggregate-over-240
+    over-240-requires
     returns-3)

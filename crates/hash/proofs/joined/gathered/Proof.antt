@@ -2,6 +2,7 @@
 use mathlib.Core.Path.{_≡_, refl, sym, ap, _∙_}
 use mathlib.Core.List.{List, _++_}
 use Prim.Native.Nat.{ℕ, _+_}
+use native.Mathlib.Omega.{arith}
 use lib.ListN.{length, take, replicate, length-append}
 use Rattle.hash.specs.XXH3.{xxh3-128}
 use Rattle.hash.proofs.Gather.{gathered}
@@ -42,14 +43,14 @@ copy-requires-2 c κs = search needs
 array-share-prefix-buf : tie.Need-array-share-prefix-buf
 array-share-prefix-buf c = search needs
 
-slice-aggregate-xxh3-128 : tie.Need-slice-aggregate-xxh3-128
-slice-aggregate-xxh3-128 c = sym (length-stored (c .before))
+slice-aggregate-upto-16 : tie.Need-slice-aggregate-upto-16
+slice-aggregate-upto-16 c = sym (length-stored (c .before))
 
-xxh3-128-requires : tie.Need-xxh3-128-requires
-xxh3-128-requires c κs = search needs
+upto-16-requires : tie.Need-upto-16-requires
+upto-16-requires c κs = omega (arith, length-stored (c .before))
 
 returns : tie.Need-returns
-returns c = c .xxh3-128 .ensures ∙ ap xxh3-128 (stored (c .before .before))
+returns c = c .upto-16 .ensures ∙ ap xxh3-128 (stored (c .before .before))
 
 pub gathered-spec : {M : Type 1} → statement M
 gathered-spec =
@@ -61,6 +62,6 @@ gathered-spec =
     slice-aggregate-copy-2
     copy-requires-2
     array-share-prefix-buf
-    slice-aggregate-xxh3-128
-    xxh3-128-requires
+    slice-aggregate-upto-16
+    upto-16-requires
     returns)
