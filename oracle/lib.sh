@@ -1,4 +1,4 @@
-# Shared by the scripts here: where things are, and plain words for what is missing. Exit 3 says that something is.
+# Shared by the scripts here and in bench/: where things are, and plain words for what is missing. Exit 3 says that something is.
 here=$(cd "$(dirname "$0")" && pwd)
 top=$(dirname "$here")
 made=${ORACLE_TARGET:-$top/target/oracle}
@@ -7,7 +7,7 @@ install=no
 export DEBIAN_FRONTEND=noninteractive
 
 missing() {
-    echo "oracle: $*" >&2
+    echo "${here##*/}: $*" >&2
     exit 3
 }
 
@@ -20,25 +20,42 @@ package() {
             missing "Debian's package $2 could not be installed"
         for found in $1; do [ ! -e "$found" ] || return 0; done
     fi
-    missing "Debian's package $2 is not here (as root: apt-get install $2, or run with --install)"
+    missing "Debian's package $2 is not here (as root: apt-get install $2)"
 }
 
-# build: the workspace, from the originals' folder
-build() {
+# originals: a Rust compiler, the Rust's own files, and Debian's packages that they lean on
+originals() {
     command -v cargo >/dev/null || missing "no Rust compiler is here (cargo, rustc 1.87 or newer)"
     minor=$(rustc --version | sed -n 's/^rustc 1\.\([0-9]*\)\..*/\1/p')
     [ "${minor:-87}" -ge 87 ] || missing "$(rustc --version) is too old: 1.87 or newer is needed"
     [ -f "$ORIGINALS/src/vlog/blob_file/writer.rs" ] ||
         missing "the original Rust files are not in $ORIGINALS (set ORIGINALS to the folder that has src/)"
-    registry=/usr/share/cargo/registry
-    package "$registry/xxhash-rust-*" librust-xxhash-rust-dev
-    package "$registry/byteorder-*" librust-byteorder-dev
-    package "$registry/log-*" librust-log-dev
-    package "$registry/tempfile-*" librust-tempfile-dev
+    for name in xxhash-rust byteorder log tempfile; do
+        package "/usr/share/cargo/registry/$name-*" "librust-$name-dev"
+    done
     ORIGINALS=$(cd "$ORIGINALS" && pwd)
     export ORIGINALS
+}
+
+# build: the workspace, from the originals' folder
+build() {
+    originals
     (cd "$here" && CARGO_TARGET_DIR=$made cargo build --release --offline --quiet) ||
         missing "the comparison could not be built (above: why)"
+}
+
+# archive: the proved library for C and Rust; BOUNDARY names another one in its place
+archive() {
+    if [ -z "${BOUNDARY:-}" ]; then
+        command -v rt >/dev/null || missing "no rt is here: the Rattle kit's bin/ must be in PATH"
+        mkdir -p "$made"
+        (cd "$top" && rt staticlib boundary) >"$made/boundary.log" 2>&1 ||
+            missing "the archive of crates/boundary was not proved (see $made/boundary.log)"
+        BOUNDARY=$top/target/staticlib/libboundary.a
+    fi
+    [ -f "$BOUNDARY" ] || missing "there is no archive at $BOUNDARY"
+    BOUNDARY=$(readlink -f "$BOUNDARY")
+    export BOUNDARY
 }
 
 # calls: the program over the Rattle crates
