@@ -46,6 +46,11 @@ fn rust(s: &[u8]) -> [u64; 2] {
     [low, high]
 }
 
+/// The same bytes in one slice, by the same way of calling.
+fn whole(bytes: &[u8], _: &[u8]) -> [u64; 2] {
+    rust(bytes)
+}
+
 fn stream(key: &[u8], value: &[u8]) -> [u64; 2] {
     let mut high = 0;
     let low = xxhash_rust_stream(key.as_ptr(), key.len(), value.as_ptr(), value.len(), &mut high);
@@ -80,18 +85,16 @@ fn one(n: usize) -> Case {
 }
 
 fn joined(n: usize) -> Case {
-    let of = |hash: fn(&[u8], &[u8]) -> [u64; 2]| {
+    let of = |at: usize, hash: fn(&[u8], &[u8]) -> [u64; 2]| {
         let bytes = noise(n, 1);
-        let (key, value) = (bytes[..KEY].to_vec(), bytes[KEY..].to_vec());
+        let (key, value) = (bytes[..at].to_vec(), bytes[at..].to_vec());
         passes(entries(n), move || hash(std::hint::black_box(&key), std::hint::black_box(&value)))
     };
-    let bytes = noise(n, 1);
-    let whole = passes(entries(n), move || rust(std::hint::black_box(&bytes)));
     Case {
         kind: "joined",
         size: n.to_string(),
         entries: entries(n),
-        makers: vec![("pitchdowel", of(boundary::hash_joined)), ("two-updates", of(stream)), ("one-slice", whole)],
+        makers: vec![("pitchdowel", of(KEY, boundary::hash_joined)), ("two-updates", of(KEY, stream)), ("one-slice", of(n, whole))],
     }
 }
 

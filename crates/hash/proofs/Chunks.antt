@@ -5,6 +5,7 @@ use mathlib.Core.Logic.{⊎-elim}
 use Prim.Native.Nat.{ℕ, _+_, _-_, _*_, _/_, _^_, _≤_, _<_}
 use native.Mathlib.Omega.{arith}
 use lib.ListN.{length, drop}
+use lib.Bits.{bitXor}
 use lib.Dec.{leb}
 use borrow.Author.Tests.{le-leb, lt-leb, lt-ltb, le-ltb}
 use Rattle.numbers.specs.Le.{num}
@@ -13,7 +14,7 @@ use Rattle.hash.specs.Notation.{add64, sub64, mul64, u64s, forUp, forDow
 use Rattle.hash.specs.Secret.{seed, avalanche}
 use Rattle.hash.specs.Medium.{accMedium, mixStep, mixTwoChunks, roundInward, processInput-17to128, chunkOf128, avalancheBoth, chunkAfter128, processInput-129to240, XXH3-128-17to240}
 use Rattle.hash.specs.XXH3.{XXH3-128-17to128, XXH3-128-129to240}
-use Rattle.hash.specs.Shape.{keyAt, twoAt, mixTwo, mixKeyed, fourthOf, thirdOf, secondOf, chunkFrom}
+use Rattle.hash.specs.Shape.{foldOf, mixHalf, keyAt, twoAt, mixTwo, mixKeyed, fourthOf, thirdOf, secondOf, chunkFrom}
 use Rattle.hash.specs.declared.Hash128.{Hash128}
 use Rattle.hash.specs.declared.medium.Acc.{Acc}
 use Rattle.hash.specs.declared.medium.Key.{Key}
@@ -25,6 +26,15 @@ use Rattle.hash.proofs.Small.{first64, next64}
 pub chunk-law : (s : List ℕ) (i x y : ℕ) → x ≡ num 8 (drop i s) → y ≡ num 8 (drop (i + 8) s) → _≡_ {A = Two} (record { x = x; y = y }) (twoAt s i)
 unfolding twoAt
 chunk-law s i x y ex ey = rw (first64 s i, next64 s i, ex, ey)
+
+-- one accumulator: f is the folded product, p the sum with it, q the sum of the other two words
+pub half-law : (acc x y a b u v f p q : ℕ) → f ≡ foldOf (bitXor x a) (bitXor y b) → p ≡ add64 acc f → q ≡ add64 u v → bitXor p q ≡ mixHalf acc x y a b u v
+half-law acc x y a b u v f p q ef ep eq = rw (ep, ef, eq)
+
+-- both of them
+pub halves-law : (p q : Two) (k : Key) (acc : Acc) (l h : ℕ) → l ≡ mixHalf (acc .a0) (p .x) (p .y) (k .a) (k .b) (q .x) (q .y) → h ≡ mixHalf (acc .a1) (q .x) (q .y) (k .c) (k .d) (p .x) (p .y) → _≡_ {A = Acc} (record { a0 = l; a1 = h }) (mixTwo p q k acc)
+unfolding mixTwo
+halves-law p q k acc l h el eh = rw (el, eh)
 
 -- two chunks of a string, mixed
 pub mixed-law : (s : List ℕ) (i j : ℕ) (p q : Two) (k : Key) (acc r : Acc) → p ≡ twoAt s i → q ≡ twoAt s j → r ≡ mixTwo p q k acc → r ≡ mixKeyed (u64s s i) (u64s s j) k acc
@@ -105,11 +115,15 @@ module _ (s : List ℕ) where
   unfolding chunkOf128
   onward i k acc r ek e = e ∙ rw ek (keyed (u64s s (i * 32)) (u64s s (i * 32 + 16)) (i * 32) acc)
 
+  -- two chunks, one after the other
+  pub in-turn : (i j : ℕ) (acc a r : Acc) → a ≡ chunkOf128 s i acc → r ≡ chunkOf128 s j a → r ≡ chunkOf128 s j (chunkOf128 s i acc)
+  in-turn i j acc a r ea e = rw ea at e
+
   pub first-half : (k l : Key) (acc a r : Acc) → k ≡ keyAt 0 → l ≡ keyAt 32 → a ≡ mixKeyed (u64s s 0) (u64s s 16) k acc → r ≡ mixKeyed (u64s s 32) (u64s s 48) l a → r ≡ chunkOf128 s 1 (chunkOf128 s 0 acc)
-  first-half k l acc a r ek el ea e = onward 1 l (chunkOf128 s 0 acc) r el (rw (onward 0 k acc a ek ea) at e)
+  first-half k l acc a r ek el ea e = in-turn 0 1 acc a r (onward 0 k acc a ek ea) (onward 1 l a r el e)
 
   pub second-half : (k l : Key) (acc a r : Acc) → k ≡ keyAt 64 → l ≡ keyAt 96 → a ≡ mixKeyed (u64s s 64) (u64s s 80) k acc → r ≡ mixKeyed (u64s s 96) (u64s s 112) l a → r ≡ chunkOf128 s 3 (chunkOf128 s 2 acc)
-  second-half k l acc a r ek el ea e = onward 3 l (chunkOf128 s 2 acc) r el (rw (onward 2 k acc a ek ea) at e)
+  second-half k l acc a r ek el ea e = in-turn 2 3 acc a r (onward 2 k acc a ek ea) (onward 3 l a r el e)
 
   pub chunk-skip : (n i : ℕ) (acc : Acc) → length s < n → acc ≡ chunkFrom s n i acc
   unfolding chunkFrom pick
@@ -131,6 +145,9 @@ module _ (s : List ℕ) where
 
   pub seventh-law : (k : Key) (acc r : Acc) → 224 ≤ length s → k ≡ keyAt 67 → r ≡ mixKeyed (u64s s 192) (u64s s 208) k acc → r ≡ chunkFrom s 224 6 acc
   seventh-law k acc r h ek e = after 224 6 k acc r h ek e
+
+  pub rest-law : (acc a b r : Acc) → a ≡ chunkFrom s 160 4 acc → b ≡ chunkFrom s 192 5 a → r ≡ chunkFrom s 224 6 b → r ≡ chunkFrom s 224 6 (chunkFrom s 192 5 (chunkFrom s 160 4 acc))
+  rest-law acc a b r ea eb e = rw (e, eb, ea)
 
   -- the second loop has no to three chunks
   abbrev chunks : ℕ → Acc → Acc
@@ -173,6 +190,15 @@ module _ (s : List ℕ) where
       e
       ∙ ap (XXH3-128-17to240 (length s))
       (ec ∙ rw (ek, eb) (keyed (u64s s (length s - 16)) (u64s s (length s - 32)) 103 (tail a)) ∙ ap (mixTwoChunks (u64s s (length s - 16)) (u64s s (length s - 32)) 103 seed) (sym (chunks-are a l h) ∙ ap (chunks (length s / 2 ^ 5 - 4)) ea))
+
+-- both accumulators, stirred
+pub stir-law : (acc : Acc) (l h : ℕ) → l ≡ avalanche (acc .a0) → h ≡ avalanche (acc .a1) → _≡_ {A = Acc} (record { a0 = l; a1 = h }) (avalancheBoth acc)
+unfolding avalancheBoth
+stir-law acc l h el eh = rw (el, eh)
+
+-- the three products and their sum
+pub weighed-law : (acc : Acc) (n a b c p q : ℕ) → a ≡ mul64 (acc .a0) PRIME64-1 → b ≡ mul64 (acc .a1) PRIME64-4 → p ≡ add64 a b → c ≡ mul64 n PRIME64-2 → q ≡ add64 p c → q ≡ add64 (add64 (mul64 (acc .a0) PRIME64-1) (mul64 (acc .a1) PRIME64-4)) (mul64 n PRIME64-2)
+weighed-law acc n a b c p q ea eb ep ec eq = rw (eq, ep, ea, eb, ec)
 
 less-none : (n : ℕ) → n < 2 ^ 64 → sub64 n seed ≡ n
 less-none n h = omega arith

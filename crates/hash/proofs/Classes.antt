@@ -1,6 +1,6 @@
 -- Which case of the definition a length falls in.
-use mathlib.Core.Path.{_≡_, refl, sym, ap, _∙_}
-use mathlib.Core.List.{List, [], _∷_, _++_, append-nil}
+use mathlib.Core.Path.{_≡_, sym, ap, _∙_}
+use mathlib.Core.List.{List, [], _∷_, _++_}
 use Prim.Native.Nat.{ℕ, _+_, _≤_, _<_}
 use native.Mathlib.Omega.{arith}
 use lib.ListN.{length, take}
@@ -85,27 +85,15 @@ module _ (s : List ℕ) where
   pub whole-large : (r : Hash128) → 240 < length s → r ≡ XXH3-128-large (take (length s) s) → r ≡ xxh3-128 s
   whole-large r h e = is-more s r h (e ∙ ap XXH3-128-large (take-length s))
 
--- a part that is empty
-no-bytes : (s : List ℕ) → length s ≡ 0 → s ≡ []
-no-bytes [] e = refl
-no-bytes (b ∷ s) e = absurd (omega arith)
+-- the same for two slices
+module _ (k v : List ℕ) where
+  pub whole-sum : (n : ℕ) → length k + length v ≤ n → length (take (length k) k) + length (take (length v) v) ≤ n
+  whole-sum n h = omega (arith, whole-length k, whole-length v)
 
-pub whole-sum : (k v : List ℕ) (n : ℕ) → n < length k + length v → n < length (take (length k) k) + length (take (length v) v)
-whole-sum k v n h = omega (arith, whole-length k, whole-length v)
+  pub whole-both : (r : Hash128) → r ≡ xxh3-128 (take (length k) k ++ take (length v) v) → r ≡ xxh3-128 (k ++ v)
+  whole-both r e = e ∙ ap (λ (l : List ℕ). xxh3-128 (l ++ take (length v) v)) (take-length k) ∙ ap (λ (l : List ℕ). xxh3-128 (k ++ l)) (take-length v)
 
-module _ (k v : List ℕ) (r : Hash128) where
-  pub no-value : length v ≡ 0 → r ≡ xxh3-128 k → r ≡ xxh3-128 (k ++ v)
-  no-value h e = e ∙ ap xxh3-128 (sym (ap (λ (l : List ℕ). k ++ l) (no-bytes v h) ∙ append-nil k))
-
-  pub no-key : length k ≡ 0 → r ≡ xxh3-128 v → r ≡ xxh3-128 (k ++ v)
-  no-key h e = e ∙ ap xxh3-128 (sym (ap (λ (l : List ℕ). l ++ v) (no-bytes k h)))
-
-  -- two slices up to their lengths are the slices
-  pub whole-both : r ≡ xxh3-128 (take (length k) k ++ take (length v) v) → r ≡ xxh3-128 (k ++ v)
-  whole-both e = e ∙ ap (λ (l : List ℕ). xxh3-128 (l ++ take (length v) v)) (take-length k) ∙ ap (λ (l : List ℕ). xxh3-128 (k ++ l)) (take-length v)
-
-  pub no-value-whole : length v ≡ 0 → r ≡ xxh3-128 (take (length k) k) → r ≡ xxh3-128 (k ++ v)
-  no-value-whole h e = no-value h (whole k r e)
-
-  pub no-key-whole : length k ≡ 0 → r ≡ xxh3-128 (take (length v) v) → r ≡ xxh3-128 (k ++ v)
-  no-key-whole h e = no-key h (whole v r e)
+-- an empty key adds nothing
+pub no-key : (k v : List ℕ) (r : Hash128) → length k ≡ 0 → r ≡ xxh3-128 v → r ≡ xxh3-128 (k ++ v)
+no-key [] v r h e = e
+no-key (b ∷ k) v r h e = absurd (omega arith)

@@ -52,6 +52,16 @@ module _ (k v : List ℕ) where
   law-128 y p q a₀ a b r l h e₀ ea ep eq ey eb e =
       chunks.law-128 (k ++ v) y a₀ a b r (omega (arith, sum-length)) (omega (arith, sum-length)) (started a₀ e₀) ea ey (inward 0 16 p q y a b ep eq eb) (finished b r e)
 
+  -- one round, and two
+  pub law-32 : (y : Key) (p q : Two) (a b : Acc) (r : Hash128) → 16 < length k + length v → length k + length v ≤ 32 → a ≡ accMedium (length k + length v)
+      → p ≡ twoAt (k ++ v) 0 → q ≡ twoAt (k ++ v) (length k + length v - 16) → y ≡ keyAt 0 → b ≡ mixTwo p q y a → r ≡ XXH3-128-17to240 (length k + length v) b → r ≡ XXH3-128-17to128 (k ++ v)
+  law-32 y p q a b r l h ea ep eq ey eb e = law-128 y p q a a b r l (omega arith) ea (second-skip a h) ep eq ey eb e
+
+  pub law-64 : (x y : Key) (p q s t : Two) (a b c : Acc) (r : Hash128) → 32 < length k + length v → length k + length v ≤ 64 → a ≡ accMedium (length k + length v)
+      → p ≡ twoAt (k ++ v) 16 → q ≡ twoAt (k ++ v) (length k + length v - 32) → x ≡ keyAt 32 → b ≡ mixTwo p q x a
+      → s ≡ twoAt (k ++ v) 0 → t ≡ twoAt (k ++ v) (length k + length v - 16) → y ≡ keyAt 0 → c ≡ mixTwo s t y b → r ≡ XXH3-128-17to240 (length k + length v) c → r ≡ XXH3-128-17to128 (k ++ v)
+  law-64 x y p q s t a b c r l h ea ep eq ex eb es et ey ec e = law-128 y s t a b c r (omega arith) (omega arith) ea (second-law x p q a a b l (third-skip a h) ep eq ex eb) es et ey ec e
+
   pub open-240 : (a₀ a b r : Acc) → a₀ ≡ accMedium (length k + length v) → a ≡ chunkOf128 (k ++ v) 1 (chunkOf128 (k ++ v) 0 a₀) → b ≡ chunkOf128 (k ++ v) 3 (chunkOf128 (k ++ v) 2 a) → r ≡ avalancheBoth b → r ≡ avalancheBoth (forUp 4 (chunkOf128 (k ++ v)) (accMedium (length (k ++ v))))
   open-240 a₀ a b r e₀ ea eb e = chunks.open-240 (k ++ v) a₀ a b r (started a₀ e₀) ea eb e
 

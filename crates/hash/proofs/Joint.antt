@@ -146,10 +146,21 @@ module _ (k v : List ℕ) where
       let f : (o : ℕ) → num 8 (drop (j + o) v) ≡ num 8 (drop (i + o) (k ++ v)) = λ o. in-value (i + o) (j + o) (num 8 (drop (j + o) v)) (omega arith) refl in
       e ∙ rw (f (8 * 0), f (8 * 1))
 
+  pub two-in-key : (i : ℕ) (r : Two) → i + 16 ≤ length k → r ≡ twoAt k i → r ≡ twoAt (k ++ v) i
+  unfolding twoAt u64s
+  two-in-key i r h e =
+      let f : (o : ℕ) → o ≤ 8 → num 8 (drop (i + o) k) ≡ num 8 (drop (i + o) (k ++ v)) = λ o l. in-key (i + o) (i + o) (num 8 (drop (i + o) k)) (omega arith) refl refl in
+      e ∙ rw (f (8 * 0) (omega arith), f (8 * 1) (omega arith))
+
   pub two-words : (i j x y : ℕ) → j ≡ i + 8 → x ≡ num 8 (drop i (k ++ v)) → y ≡ num 8 (drop j (k ++ v)) → _≡_ {A = Two} (record { x = x; y = y }) (twoAt (k ++ v) i)
   two-words i j x y ej ex ey = chunk-law (k ++ v) i x y ex (ey ∙ ap (λ (n : ℕ). num 8 (drop n (k ++ v))) ej)
 
 -- the end of a list, at the top of a word
+pub end-none : (s : List ℕ) → length s ≡ 0 → 0 ≡ endOf s
+unfolding endOf num
+end-none [] h = refl
+end-none (b ∷ s) h = absurd (omega arith)
+
 module _ (s : List ℕ) where
   pub end-long : (r : ℕ) → 8 ≤ length s → r ≡ num 8 (drop (length s - 8) s) → r ≡ endOf s
   unfolding endOf

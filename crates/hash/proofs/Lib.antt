@@ -6,11 +6,14 @@ mod Classes
 mod First
 mod Gather
 mod Joint
+mod JoinedLarge
 mod JoinedRounds
+mod Lanes
 mod Loops
 mod Parts
 mod Seam
 mod Small
 mod Stripes
 mod Tables
+mod Turns
 mod Whole

@@ -4,12 +4,12 @@ use mathlib.Core.List.{List}
 use Prim.Native.Nat.{ℕ, _+_, _-_, _*_, _/_, _%_, _^_, _≤_}
 use native.Mathlib.Nat.{add-zero}
 use native.Mathlib.Omega.{arith}
-use lib.ListN.{length, drop}
+use lib.ListN.{length, getD, drop}
 use lib.Bits.{bitXor, bitOr}
 use Rattle.numbers.specs.Le.{le, num}
 use Rattle.numbers.specs.Wide.{bswap, rotl32}
-use Rattle.hash.specs.Notation.{add64, sub64, mul64, shl64, u32s, u64s, PRIME32-2, PRIME64-1}
-use Rattle.hash.specs.Secret.{seed, secret, avalanche-XXH64}
+use Rattle.hash.specs.Notation.{add64, sub64, mul64, shl32, shl64, u32s, u64s, PRIME32-2, PRIME64-1, PRIME64-2, PRIME-MX2}
+use Rattle.hash.specs.Secret.{seed, secret, avalanche, avalanche-XXH64}
 use Rattle.hash.specs.Small.{combined, modifiedSeed, XXH3-128-1to3, XXH3-128-4to8, XXH3-128-9to16}
 use Rattle.hash.specs.declared.Hash128.{Hash128}
 use Rattle.hash.specs.Shape.{mix4to8, end4to8, mix9to16, end9to16}
@@ -35,7 +35,7 @@ unfolding u64s num secret
 flip-48 = refl
 
 module _ (s : List ℕ) (i : ℕ) where
-  pub first32 : u32s s i 0 ≡ num 4 (drop i s)
+  first32 : u32s s i 0 ≡ num 4 (drop i s)
   unfolding u32s
   first32 = ap (λ (j : ℕ). num 4 (drop j s)) (add-zero i)
 
@@ -71,12 +71,33 @@ add-halves h a b = omega arith
 whole-and-half : (v : ℕ) → v + v % 2 ^ 32 * 0x85ebca76 ≡ v / 2 ^ 32 * 2 ^ 32 + v % 2 ^ 32 * PRIME32-2
 whole-and-half v = omega arith
 
-pub val2-sum : (h v : ℕ) → add64 (add64 h v) (v % 2 ^ 32 * 0x85ebca76) ≡ add64 (add64 h (shl64 (v / 2 ^ 32) 32)) (mul64 (v % 2 ^ 32) PRIME32-2)
+val2-sum : (h v : ℕ) → add64 (add64 h v) (v % 2 ^ 32 * 0x85ebca76) ≡ add64 (add64 h (shl64 (v / 2 ^ 32) 32)) (mul64 (v % 2 ^ 32) PRIME32-2)
 val2-sum h v =
     add-twice h v (v % 2 ^ 32 * 0x85ebca76) ∙ ap (λ (n : ℕ). (h + n) % 2 ^ 64) (whole-and-half v) ∙ sym (add-halves h (v / 2 ^ 32 * 2 ^ 32) (v % 2 ^ 32 * PRIME32-2))
 
+-- 4-8 and 9-16 bytes: the steps after the words are read, in turn
+pub end-8-law : (l h y a : ℕ) → y ≡ mul64 (bitXor (bitXor l (h / 2 ^ 3)) (bitXor l (h / 2 ^ 3) / 2 ^ 35)) PRIME-MX2 → a ≡ avalanche h → _≡_ {A = Hash128} (record { low = bitXor y (y / 2 ^ 28); high = a }) (end4to8 l h)
+unfolding end4to8
+end-8-law l h y a ey ea = rw (ey, ea)
+
+pub mix-8-law : (x y l g h : ℕ) (r : Hash128) → l ≡ mul64 x y → g ≡ x * y / 2 ^ 64 → h ≡ add64 g (shl64 l 1) → r ≡ end4to8 l h → r ≡ mix4to8 (x * y)
+unfolding mix4to8
+mix-8-law x y l g h r el eg eh e = rw (e, eh, eg, el)
+
+pub end-16-law : (l h w g m y p a b : ℕ) → w ≡ bswap 8 h → g ≡ bitXor l w * PRIME64-2 / 2 ^ 64 → m ≡ mul64 h PRIME64-2 → y ≡ add64 g m → p ≡ mul64 (bitXor l w) PRIME64-2 → a ≡ avalanche p → b ≡ avalanche y → _≡_ {A = Hash128} (record { low = a; high = b }) (end9to16 l h)
+unfolding end9to16
+end-16-law l h w g m y p a b ew eg em ey ep ea eb = rw (ea, ep, eb, ey, eg, em, ew)
+
+pub mix-16-law : (x v n m l g w h : ℕ) (r : Hash128) → m ≡ mul64 x PRIME64-1 → l ≡ add64 m (shl64 (n - 1) 54) → g ≡ x * PRIME64-1 / 2 ^ 64 → w ≡ add64 g v → h ≡ add64 w (v % 2 ^ 32 * 0x85ebca76) → r ≡ end9to16 l h → r ≡ mix9to16 (x * PRIME64-1) v n
+unfolding mix9to16
+mix-16-law x v n m l g w h r em el eg ew eh e = rw (e, el, em, eh, ew, eg, val2-sum (x * PRIME64-1 / 2 ^ 64) v)
+
 -- what the code computes is the description's
 module _ (s : List ℕ) where
+  pub combined-law : (a b c : ℕ) → a ≡ getD s (length s - 1) 0 → b ≡ getD s 0 0 → c ≡ getD s (length s / 2 ^ 1) 0 → bitOr (bitOr (bitOr a (shl32 (length s) 8)) (shl32 b 16)) (shl32 c 24) ≡ combined s
+  unfolding combined
+  combined-law a b c ea eb ec = rw (ea, eb, ec)
+
   pub law-3 : (x w y l h : ℕ) → x ≡ combined s → w ≡ bswap 4 x → y ≡ rotl32 w 13 → l ≡ avalanche-XXH64 (bitXor 0x87275a9b x) → h ≡ avalanche-XXH64 (bitXor 0x302c208b y) → _≡_ {A = Hash128} (record { low = l; high = h }) (XXH3-128-1to3 s)
   unfolding XXH3-128-1to3
   law-3 x w y l h ex ew ey el eh =

@@ -23,7 +23,7 @@ lanes-same f g u v p q x =
     forUp-same 8 (accumulateLane f u) (accumulateLane g v) x
     (λ k h y. lane-same f u k y ∙ ap₂ (λ (d w : ℕ). laneOf k d w y) (p k h) (q k h) ∙ sym (lane-same g v k y))
 
-pub accumulate-same : (f g : ℕ → ℕ) (o : ℕ) → ((k : ℕ) → k < 8 → f k ≡ g k) → (x : List ℕ) → accumulate f o x ≡ accumulate g o x
+accumulate-same : (f g : ℕ → ℕ) (o : ℕ) → ((k : ℕ) → k < 8 → f k ≡ g k) → (x : List ℕ) → accumulate f o x ≡ accumulate g o x
 unfolding accumulate
 accumulate-same f g o p x = lanes-same f g (u64s secret o) (u64s secret o) p (λ k h. refl) x
 

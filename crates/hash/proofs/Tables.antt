@@ -30,11 +30,18 @@ at-eight f (suc (suc (suc (suc (suc (suc zero)))))) h = refl
 at-eight f (suc (suc (suc (suc (suc (suc (suc zero))))))) h = refl
 at-eight f (suc (suc (suc (suc (suc (suc (suc (suc k)))))))) h = absurd (omega arith)
 
-pub words-last : (k : ℕ) → k < 8 → getD (0xc3ebd33483acc5ea ∷ 0xeb6313faffa081c5 ∷ 0x49daf0b751dd0d17 ∷ 0x9e68d429265516d3 ∷ 0xfca1477d58be162b ∷ 0xce31d07ad1b8f88f ∷ 0x280416958f3acb45 ∷ 0x7e404bbbcafbd7af ∷ []) k 0 ≡ u64s secret (secretLength - 64) k
+-- the tables LAST and TAIL
+abbrev pub last : List ℕ
+last = 0xc3ebd33483acc5ea ∷ 0xeb6313faffa081c5 ∷ 0x49daf0b751dd0d17 ∷ 0x9e68d429265516d3 ∷ 0xfca1477d58be162b ∷ 0xce31d07ad1b8f88f ∷ 0x280416958f3acb45 ∷ 0x7e404bbbcafbd7af ∷ []
+
+abbrev tail : List ℕ
+tail = 0xea647378d9c97e9f ∷ 0xc5c3ebd33483acc5 ∷ 0x17eb6313faffa081 ∷ 0xd349daf0b751dd0d ∷ 0x2b9e68d429265516 ∷ 0x8ffca1477d58be16 ∷ 0x45ce31d07ad1b8f8 ∷ 0xaf280416958f3acb ∷ []
+
+pub words-last : (k : ℕ) → k < 8 → getD last k 0 ≡ u64s secret (secretLength - 64) k
 unfolding u64s num secret secretLength
 words-last k h = at-eight (u64s secret 128) k h
 
-pub words-tail : (k : ℕ) → k < 8 → getD (0xea647378d9c97e9f ∷ 0xc5c3ebd33483acc5 ∷ 0x17eb6313faffa081 ∷ 0xd349daf0b751dd0d ∷ 0x2b9e68d429265516 ∷ 0x8ffca1477d58be16 ∷ 0x45ce31d07ad1b8f8 ∷ 0xaf280416958f3acb ∷ []) k 0 ≡ u64s secret (secretLength - 71) k
+pub words-tail : (k : ℕ) → k < 8 → getD tail k 0 ≡ u64s secret (secretLength - 71) k
 unfolding u64s num secret secretLength
 words-tail k h = at-eight (u64s secret 121) k h
 
@@ -47,12 +54,11 @@ unfolding u64s num secret secretLength
 words-high = refl
 
 -- the last step with the secret's words given
-pub merge-eight : (a : List ℕ) (n o k₀ k₁ k₂ k₃ k₄ k₅ k₆ k₇ : ℕ) → k₀ ∷ k₁ ∷ k₂ ∷ k₃ ∷ k₄ ∷ k₅ ∷ k₆ ∷ k₇ ∷ [] ≡ eight (u64s secret o)
-    → finalMerge a n o
-    ≡ avalanche
-    (pairOf (pairOf (pairOf (pairOf n (getD a 0 0) (getD a 1 0) k₀ k₁) (getD a 2 0) (getD a 3 0) k₂ k₃) (getD a 4 0) (getD a 5 0) k₄ k₅) (getD a 6 0) (getD a 7 0) k₆ k₇)
+pub merge-eight : (a : List ℕ) (o : ℕ) {k₀ k₁ k₂ k₃ k₄ k₅ k₆ k₇ m n p q r t h : ℕ} → k₀ ∷ k₁ ∷ k₂ ∷ k₃ ∷ k₄ ∷ k₅ ∷ k₆ ∷ k₇ ∷ [] ≡ eight (u64s secret o)
+    → m ≡ n → p ≡ pairOf m (getD a 0 0) (getD a 1 0) k₀ k₁ → q ≡ pairOf p (getD a 2 0) (getD a 3 0) k₂ k₃ → r ≡ pairOf q (getD a 4 0) (getD a 5 0) k₄ k₅ → t ≡ pairOf r (getD a 6 0) (getD a 7 0) k₆ k₇ → h ≡ avalanche t
+    → h ≡ finalMerge a n o
 unfolding finalMerge forUp mergeLanes
-merge-eight a n o k₀ k₁ k₂ k₃ k₄ k₅ k₆ k₇ e = cc
+merge-eight a o e em ep eq er et eh = cc
 
 -- both halves of `twice`
 first-half : take 176 (drop 0 twice) ≡ take 176 (drop 0 secret)

@@ -3,13 +3,15 @@ use mathlib.Core.Path.{_≡_, refl, sym, ap, ap₂, _∙_}
 use mathlib.Core.List.{List}
 use Prim.Native.Nat.{ℕ, zero, suc, _+_, _-_, _*_, _/_, _%_, _<_, _≤_}
 use native.Mathlib.Omega.{arith}
-use lib.ListN.{length}
+use lib.ListN.{length, take}
+use lib.Seq.{take-length}
 use borrow.Author.Tests.{eq-eqb, ne-eqb}
 use Rattle.numbers.specs.Pick.{pick}
-use Rattle.hash.specs.Notation.{u64s, forUp}
+use Rattle.hash.specs.Notation.{mul64, not64, u64s, forUp, PRIME64-1, PRIME64-2}
 use Rattle.hash.specs.Secret.{secret, secretLength}
-use Rattle.hash.specs.Large.{accLarge, stripesPerBlock, blockSize, accumulate, accumulateNth, round-accumulate, round-scramble, round, fullBlocks, lastRound, accumulated}
+use Rattle.hash.specs.Large.{accLarge, stripesPerBlock, blockSize, accumulate, accumulateNth, round-accumulate, round-scramble, round, fullBlocks, lastRound, accumulated, finalMerge, XXH3-128-large}
 use Rattle.hash.specs.ShapeLong.{blockEnd, stepAt, stripesOf}
+use Rattle.hash.specs.declared.Hash128.{Hash128}
 use Rattle.hash.proofs.Loops.{forUp-same, forUp-plus}
 
 per-block : stripesPerBlock ≡ 16
@@ -66,7 +68,7 @@ module _ (s : List ℕ) where
       ∙ ap (forUp n (accumulateNth s (m * blockSize))) (blocks m x)
 
   -- steps 1 to 3
-  pub all-stripes : accumulate (u64s s (length s - 64)) (secretLength - 71) (stripesOf s 0 0 ((length s - 1) / 64) accLarge) ≡ accumulated s
+  all-stripes : accumulate (u64s s (length s - 64)) (secretLength - 71) (stripesOf s 0 0 ((length s - 1) / 64) accLarge) ≡ accumulated s
   unfolding accumulated lastRound fullBlocks
   all-stripes =
       let m : ℕ = (length s - 1) / 1024 in
@@ -75,3 +77,13 @@ module _ (s : List ℕ) where
       ap (accumulate (u64s s (length s - 64)) (secretLength - 71))
       (ap (λ (k : ℕ). stripesOf s 0 0 k accLarge) e ∙ block-stripes m n (omega arith) accLarge)
       ∙ rw block-size refl
+
+  -- both merges are the hash, n being the length
+  pub merged-law : (n : ℕ) (a b : List ℕ) (l h : ℕ) → n ≡ length s → a ≡ stripesOf s 0 0 ((n - 1) / 64) accLarge → b ≡ accumulate (u64s s (n - 64)) (secretLength - 71) a → l ≡ finalMerge b (mul64 n PRIME64-1) 11 → h ≡ finalMerge b (not64 (mul64 n PRIME64-2)) (secretLength - 75) → _≡_ {A = Hash128} (record { low = l; high = h }) (XXH3-128-large s)
+  unfolding XXH3-128-large
+  merged-law n a b l h en ea eb el eh =
+      let e : b ≡ accumulated s = rw (eb, ea, en) all-stripes in
+      rw (el, eh, e, en)
+
+  pub large-law : (a b : List ℕ) (l h : ℕ) → a ≡ stripesOf (take (length s) s) 0 0 ((length s - 1) / 64) accLarge → b ≡ accumulate (u64s s (length s - 64)) (secretLength - 71) a → l ≡ finalMerge b (mul64 (length s) PRIME64-1) 11 → h ≡ finalMerge b (not64 (mul64 (length s) PRIME64-2)) (secretLength - 75) → _≡_ {A = Hash128} (record { low = l; high = h }) (XXH3-128-large s)
+  large-law a b l h ea eb el eh = merged-law (length s) a b l h refl (rw (take-length s) at ea) eb el eh

@@ -36,12 +36,14 @@ pub(crate) fn head(s: &[u8]) -> u64
 
 // The last eight bytes, or as many as there are, at the top.
 pub(crate) fn end(s: &[u8]) -> u64
-    requires { ⌜ 0 < length (now s) ⌝ }
     ensures { λ r. ⌜ r ≡ endOf (now (s .entry)) ⌝ }
 {
     let n = s.len();
     if 8 <= n {
         return read64(s, n - 8);
+    }
+    if n == 0 {
+        return 0;
     }
     few(&s[..n]) << (64 - 8 * (n as u32))
 }
@@ -90,6 +92,9 @@ pub(crate) fn front(key: &[u8], value: &[u8], i: usize, t: u64, h: u64) -> Two
     ensures { λ r. ⌜ r ≡ twoAt (now (key .entry) ++ now (value .entry)) i ⌝ }
 {
     let m = key.len();
+    if i + 16 <= m {
+        return chunk(key, i);
+    }
     if m <= i {
         return chunk(value, i - m);
     }

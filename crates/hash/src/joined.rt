@@ -15,11 +15,13 @@ use super::border::end;
 use super::border::front;
 use super::border::head;
 use super::long;
+use super::medium;
+use super::rounds::from_17_to_32;
 use super::rounds::from_17_to_128;
+use super::rounds::from_33_to_64;
 use super::rounds::from_129_to_240;
 use super::short::upto_16;
 use numbers::bytes::copy;
-use numbers::bytes::room;
 
 // Up to 16 bytes, gathered.
 fn gathered(key: &[u8], value: &[u8]) -> Hash128
@@ -34,32 +36,62 @@ fn gathered(key: &[u8], value: &[u8]) -> Hash128
     upto_16(&buf[..n])
 }
 
-pub(crate) fn upto_128(key: &[u8], value: &[u8]) -> Hash128
-    requires { ⌜ (0 < length (now key)) × (length (now key) + length (now value) ≤ 128) ⌝ }
+fn from_0_to_32(key: &[u8], value: &[u8]) -> Hash128
+    requires { ⌜ length (now key) + length (now value) ≤ 32 ⌝ }
     ensures { λ r. ⌜ r ≡ xxh3-128 (now (key .entry) ++ now (value .entry)) ⌝ }
 {
     if key.len() + value.len() <= 16 {
         return gathered(key, value);
     }
-    from_17_to_128(key, value, end(key), head(value))
+    from_17_to_32(key, value, end(key), head(value))
 }
 
-pub(crate) fn over_128(key: &[u8], value: &[u8]) -> Hash128
-    requires { ⌜ 128 < length (now key) + length (now value) ⌝ }
+pub(crate) fn upto_32(key: &[u8], value: &[u8]) -> Hash128
+    requires { ⌜ length (now key) + length (now value) ≤ 32 ⌝ }
     ensures { λ r. ⌜ r ≡ xxh3-128 (now (key .entry) ++ now (value .entry)) ⌝ }
 {
     let m = key.len();
     let n = value.len();
-    if n == 0 {
-        return super::over_128(&key[..m]);
+    from_0_to_32(&key[..m], &value[..n])
+}
+
+fn from_65_to_240(key: &[u8], value: &[u8], t: u64, h: u64) -> Hash128
+    requires { ⌜ (64 < length (now key) + length (now value)) × (length (now key) + length (now value) ≤ 240) × (t ≡ endOf (now key)) × (h ≡ num 8 (now value)) ⌝ }
+    ensures { λ r. ⌜ r ≡ xxh3-128 (now (key .entry) ++ now (value .entry)) ⌝ }
+{
+    if key.len() + value.len() <= 128 {
+        return from_17_to_128(key, value, t, h);
     }
-    if m == 0 {
-        return super::over_128(&value[..n]);
+    if key.len() == 0 {
+        return medium::upto_240(value);
     }
-    if n <= room(240, m) {
-        return from_129_to_240(key, value, end(key), head(value));
+    from_129_to_240(key, value, t, h)
+}
+
+// A string shorter than the class goes to the class before.
+fn from_33_to_240(key: &[u8], value: &[u8]) -> Hash128
+    requires { ⌜ length (now key) + length (now value) ≤ 240 ⌝ }
+    ensures { λ r. ⌜ r ≡ xxh3-128 (now (key .entry) ++ now (value .entry)) ⌝ }
+{
+    let n = key.len() + value.len();
+    if n <= 32 {
+        return upto_32(key, value);
     }
-    over_240(key, value)
+    let t = end(key);
+    let h = head(value);
+    if n <= 64 {
+        return from_33_to_64(key, value, t, h);
+    }
+    from_65_to_240(key, value, t, h)
+}
+
+pub(crate) fn upto_240(key: &[u8], value: &[u8]) -> Hash128
+    requires { ⌜ length (now key) + length (now value) ≤ 240 ⌝ }
+    ensures { λ r. ⌜ r ≡ xxh3-128 (now (key .entry) ++ now (value .entry)) ⌝ }
+{
+    let m = key.len();
+    let n = value.len();
+    from_33_to_240(&key[..m], &value[..n])
 }
 
 // The 64 bytes from i on, of which the first stand in key.
@@ -117,7 +149,7 @@ fn border(key: &[u8], value: &[u8], p: usize) -> [u64; 8]
 
 // A first stripe that crosses is read by words.
 fn stripes(key: &[u8], value: &[u8]) -> [u64; 8]
-    requires { ⌜ (0 < length (now key)) × (240 < length (now key) + length (now value)) ⌝ }
+    requires { ⌜ 240 < length (now key) + length (now value) ⌝ }
     ensures { λ r. ⌜ r ≡ stripesOf (now (key .entry) ++ now (value .entry)) 0 0 ((length (now (key .entry)) + length (now (value .entry)) - 1) / 64) accLarge ⌝ }
 {
     let m = key.len();
@@ -147,8 +179,8 @@ fn last(acc: [u64; 8], key: &[u8], value: &[u8]) -> [u64; 8]
     long::last(acc, &b, 0)
 }
 
-fn over_240(key: &[u8], value: &[u8]) -> Hash128
-    requires { ⌜ (0 < length (now key)) × (240 < length (now key) + length (now value)) ⌝ }
+fn large(key: &[u8], value: &[u8]) -> Hash128
+    requires { ⌜ 240 < length (now key) + length (now value) ⌝ }
     ensures { λ r. ⌜ r ≡ xxh3-128 (now (key .entry) ++ now (value .entry)) ⌝ }
 {
     let n = (key.len() + value.len()) as u64;
@@ -157,4 +189,24 @@ fn over_240(key: &[u8], value: &[u8]) -> Hash128
         low: long::low(a, n),
         high: long::high(a, n),
     }
+}
+
+fn from_241(key: &[u8], value: &[u8]) -> Hash128
+    ensures { λ r. ⌜ r ≡ xxh3-128 (now (key .entry) ++ now (value .entry)) ⌝ }
+{
+    if key.len() + value.len() <= 240 {
+        return upto_240(key, value);
+    }
+    if key.len() == 0 {
+        return long::over_240(value);
+    }
+    large(key, value)
+}
+
+pub(crate) fn over_240(key: &[u8], value: &[u8]) -> Hash128
+    ensures { λ r. ⌜ r ≡ xxh3-128 (now (key .entry) ++ now (value .entry)) ⌝ }
+{
+    let m = key.len();
+    let n = value.len();
+    from_241(&key[..m], &value[..n])
 }

@@ -6,6 +6,7 @@ ghost use Rattle.hash.specs.Notation.{mul64, not64, u64s, PRIME64-1, PRI
 ghost use Rattle.hash.specs.Secret.{secretLength};
 ghost use Rattle.hash.specs.Large.{accLarge, accumulate, round-scramble, finalMerge, XXH3-128-large};
 ghost use Rattle.hash.specs.ShapeLong.{placeOf, laneOf, lanesOf, blockEnd, stripesOf, pairOf};
+ghost use Rattle.hash.specs.XXH3.{xxh3-128};
 use super::Hash128;
 use super::medium::Two;
 use super::words::avalanche;
@@ -555,7 +556,7 @@ pub(crate) fn high(a: [u64; 8], n: u64) -> u64
     avalanche(pair(r, a[6], a[7], 0x7ad1_b8f8_8ffc_a147, 0x958f_3acb_45ce_31d0))
 }
 
-pub(crate) fn over_240(s: &[u8]) -> Hash128
+fn from_241(s: &[u8]) -> Hash128
     requires { ⌜ 240 < length (now s) ⌝ }
     ensures { λ r. ⌜ r ≡ XXH3-128-large (now (s .entry)) ⌝ }
 {
@@ -565,4 +566,12 @@ pub(crate) fn over_240(s: &[u8]) -> Hash128
         low: low(a, n as u64),
         high: high(a, n as u64),
     }
+}
+
+pub(crate) fn over_240(s: &[u8]) -> Hash128
+    requires { ⌜ 240 < length (now s) ⌝ }
+    ensures { λ r. ⌜ r ≡ xxh3-128 (now (s .entry)) ⌝ }
+{
+    let n = s.len();
+    from_241(&s[..n])
 }

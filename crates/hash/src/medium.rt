@@ -5,7 +5,7 @@ ghost use lib.ListN.{length};
 ghost use Rattle.hash.specs.Notation.{u64s, add64, sub64, mul64, forUp, PRIME64-1, PRIME64-2, PRIME64-4};
 ghost use Rattle.hash.specs.Medium.{accMedium, avalancheBoth, chunkOf128, XXH3-128-17to240};
 ghost use Rattle.hash.specs.Shape.{keyAt, mixHalf, twoAt, mixTwo, mixKeyed, fourthOf, thirdOf, secondOf, chunkFrom};
-ghost use Rattle.hash.specs.XXH3.{XXH3-128-17to128, XXH3-128-129to240};
+ghost use Rattle.hash.specs.XXH3.{XXH3-128-17to128, XXH3-128-129to240, xxh3-128};
 use super::Hash128;
 use super::words::avalanche;
 use super::words::fold;
@@ -228,7 +228,7 @@ fn second(acc: Acc, s: &[u8]) -> Acc
     mix(third(acc, s), s, 16, n - 32, key_32())
 }
 
-pub(crate) fn from_17_to_128(s: &[u8]) -> Hash128
+fn from_17_to_128(s: &[u8]) -> Hash128
     requires { ⌜ (16 < length (now s)) × (length (now s) ≤ 128) ⌝ }
     ensures { λ r. ⌜ r ≡ XXH3-128-17to128 (now (s .entry)) ⌝ }
 {
@@ -303,7 +303,7 @@ fn opening(s: &[u8]) -> Acc
     stir(second_half(first_half(start(s.len() as u64), s), s))
 }
 
-pub(crate) fn from_129_to_240(s: &[u8]) -> Hash128
+fn from_129_to_240(s: &[u8]) -> Hash128
     requires { ⌜ (128 < length (now s)) × (length (now s) ≤ 240) ⌝ }
     ensures { λ r. ⌜ r ≡ XXH3-128-129to240 (now (s .entry)) ⌝ }
 {
@@ -312,4 +312,22 @@ pub(crate) fn from_129_to_240(s: &[u8]) -> Hash128
         mix(rest(opening(s), s), s, n - 16, n - 32, key_103()),
         n as u64,
     )
+}
+
+fn from_17_to_240(s: &[u8]) -> Hash128
+    requires { ⌜ (16 < length (now s)) × (length (now s) ≤ 240) ⌝ }
+    ensures { λ r. ⌜ r ≡ xxh3-128 (now (s .entry)) ⌝ }
+{
+    if s.len() <= 128 {
+        return from_17_to_128(s);
+    }
+    from_129_to_240(s)
+}
+
+pub(crate) fn upto_240(s: &[u8]) -> Hash128
+    requires { ⌜ (16 < length (now s)) × (length (now s) ≤ 240) ⌝ }
+    ensures { λ r. ⌜ r ≡ xxh3-128 (now (s .entry)) ⌝ }
+{
+    let n = s.len();
+    from_17_to_240(&s[..n])
 }

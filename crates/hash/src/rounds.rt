@@ -70,6 +70,41 @@ fn second(acc: Acc, key: &[u8], value: &[u8], t: u64, h: u64) -> Acc
     )
 }
 
+// One round; and two, with no test between them.
+pub(crate) fn from_17_to_32(key: &[u8], value: &[u8], t: u64, h: u64) -> Hash128
+    requires { ⌜ (16 < length (now key) + length (now value)) × (length (now key) + length (now value) ≤ 32) × (t ≡ endOf (now key)) × (h ≡ num 8 (now value)) ⌝ }
+    ensures { λ r. ⌜ r ≡ XXH3-128-17to128 (now (key .entry) ++ now (value .entry)) ⌝ }
+{
+    let n = (key.len() + value.len()) as u64;
+    let last = mixed(
+        start(n),
+        front(key, value, 0, t, h),
+        back(key, value, 16, t, h),
+        key_0(),
+    );
+    finish(last, n)
+}
+
+pub(crate) fn from_33_to_64(key: &[u8], value: &[u8], t: u64, h: u64) -> Hash128
+    requires { ⌜ (32 < length (now key) + length (now value)) × (length (now key) + length (now value) ≤ 64) × (t ≡ endOf (now key)) × (h ≡ num 8 (now value)) ⌝ }
+    ensures { λ r. ⌜ r ≡ XXH3-128-17to128 (now (key .entry) ++ now (value .entry)) ⌝ }
+{
+    let n = (key.len() + value.len()) as u64;
+    let acc = mixed(
+        start(n),
+        front(key, value, 16, t, h),
+        back(key, value, 32, t, h),
+        key_32(),
+    );
+    let last = mixed(
+        acc,
+        front(key, value, 0, t, h),
+        back(key, value, 16, t, h),
+        key_0(),
+    );
+    finish(last, n)
+}
+
 pub(crate) fn from_17_to_128(key: &[u8], value: &[u8], t: u64, h: u64) -> Hash128
     requires { ⌜ (16 < length (now key) + length (now value)) × (length (now key) + length (now value) ≤ 128) × (t ≡ endOf (now key)) × (h ≡ num 8 (now value)) ⌝ }
     ensures { λ r. ⌜ r ≡ XXH3-128-17to128 (now (key .entry) ++ now (value .entry)) ⌝ }

@@ -122,7 +122,7 @@ fn from_9_to_16(s: &[u8]) -> Hash128
     )
 }
 
-pub(crate) fn upto_16(s: &[u8]) -> Hash128
+fn from_0_to_16(s: &[u8]) -> Hash128
     requires { ⌜ length (now s) ≤ 16 ⌝ }
     ensures { λ r. ⌜ r ≡ xxh3-128 (now (s .entry)) ⌝ }
 {
@@ -137,4 +137,12 @@ pub(crate) fn upto_16(s: &[u8]) -> Hash128
         return from_1_to_3(s);
     }
     empty()
+}
+
+pub(crate) fn upto_16(s: &[u8]) -> Hash128
+    requires { ⌜ length (now s) ≤ 16 ⌝ }
+    ensures { λ r. ⌜ r ≡ xxh3-128 (now (s .entry)) ⌝ }
+{
+    let n = s.len();
+    from_0_to_16(&s[..n])
 }

@@ -1,7 +1,5 @@
--- The stripes in key and the one across are the joined string's (with-crossing).
-use native.Mathlib.Omega.{arith}
-use Rattle.hash.specs.Large.{accLarge}
-use Rattle.hash.proofs.Seam.{with-crossing}
+-- The stripes in key and the one across are the joined string's (border-law).
+use Rattle.hash.proofs.Seam.{border-law}
 use borrow.Author.Needs.{needs}
 use Rattle.hash.proofs.joined.border.Statement.{statement}
 use Rattle.hash.proofs.joined.border.Tie as tie
@@ -22,7 +20,7 @@ go-on-requires : tie.Need-go-on-requires
 go-on-requires c κs = search needs
 
 returns : tie.Need-returns
-returns c = let a = c .before .before .before .before .before .before .args in cc (with-crossing (a .key .now) (a .value .now) _ (a .p) (c .before .before .before .across .ensures) (omega arith) accLarge)
+returns c = search (needs, border-law)
 
 pub border-spec : {M : Type 1} → statement M
 border-spec =

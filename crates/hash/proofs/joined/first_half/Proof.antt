@@ -1,6 +1,5 @@
 -- The words and lanes are those of the first stripe.
 use mathlib.Core.List.{_++_}
-use Rattle.hash.specs.Large.{accLarge}
 use Rattle.hash.proofs.First.{half-law}
 use borrow.Author.Needs.{needs}
 use Rattle.hash.proofs.joined.first_half.Statement.{statement}
@@ -19,7 +18,6 @@ two-lanes-requires-2 : tie.Need-two-lanes-requires-2
 two-lanes-requires-2 c κs = search needs
 
 returns : tie.Need-returns
-unfolding accLarge
 returns c = let a = c .before .before .before .before .before .before .args in half-law (a .key .now ++ a .value .now) _ _ _ _ (c .before .before .before .front .ensures) (c .before .before .two-lanes .ensures) (c .before .front2 .ensures) (c .two-lanes2 .ensures)
 
 pub first-half-spec : {M : Type 1} → statement M

@@ -1,8 +1,4 @@
--- The last 64 bytes stand in value, or across.
-use Prim.Native.Nat.{_+_, _-_}
-use native.Mathlib.Omega.{arith}
-use lib.ListN.{length}
-use Rattle.hash.specs.Secret.{secretLength}
+-- The last 64 bytes stand in value (last-in-second), or across (last-across).
 use Rattle.hash.proofs.Seam.{last-in-second, last-across}
 use borrow.Author.Needs.{needs}
 use Rattle.hash.proofs.joined.last.Statement.{statement}
@@ -12,7 +8,7 @@ last-requires : tie.Need-last-requires
 last-requires c κs = search needs
 
 returns : tie.Need-returns
-returns c = let a = c .before .before .before .before .args in cc (last-in-second (a .key .now) (a .value .now) (secretLength - 71) (omega arith) (a .acc))
+returns c = search (needs, last-in-second)
 
 add-across : tie.Need-add-across
 add-across c = search needs
@@ -30,7 +26,7 @@ last-requires-2 : tie.Need-last-requires-2
 last-requires-2 c κs = search needs
 
 returns-2 : tie.Need-returns-2
-returns-2 c = let a = c .before .before .before .before .before .before .args in cc (last-across (a .key .now) (a .value .now) _ (length (a .key .now) + length (a .value .now) - 64) (secretLength - 71) (c .before .before .across .ensures) (a .acc))
+returns-2 c = search (needs, last-across)
 
 pub last-spec : {M : Type 1} → statement M
 last-spec =

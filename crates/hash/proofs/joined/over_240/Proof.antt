@@ -1,33 +1,22 @@
--- All stripes and the last are the description's accumulation of the joined string (all-stripes).
-use mathlib.Core.List.{_++_}
-use native.Mathlib.Omega.{arith}
-use lib.ListN.{length-append}
-use Rattle.hash.specs.Large.{XXH3-128-large}
-use Rattle.hash.proofs.Classes.{is-more}
-use Rattle.hash.proofs.Whole.{all-stripes}
+-- Slices up to their lengths are the slices.
+use Rattle.hash.proofs.Classes.{whole-length, whole-both}
 use borrow.Author.Needs.{needs}
 use Rattle.hash.proofs.joined.over_240.Statement.{statement}
 use Rattle.hash.proofs.joined.over_240.Tie as tie
 
-add-n : tie.Need-add-n
-add-n c = search needs
+slice-aggregate-from-241 : tie.Need-slice-aggregate-from-241
+slice-aggregate-from-241 c = search (needs, whole-length)
 
-stripes-requires : tie.Need-stripes-requires
-stripes-requires c κs = search needs
+slice-aggregate-from-241-2 : tie.Need-slice-aggregate-from-241-2
+slice-aggregate-from-241-2 c = search (needs, whole-length)
 
-last-requires : tie.Need-last-requires
-last-requires c κs = search needs
-
-low-requires : tie.Need-low-requires
-low-requires c κs = search needs
-
-high-requires : tie.Need-high-requires
-high-requires c κs = search needs
+from-241-requires : tie.Need-from-241-requires
+from-241-requires c κs = search needs
 
 returns : tie.Need-returns
-unfolding XXH3-128-large
-returns c = let a = c .before .before .before .before .before .before .args in is-more (a .key .now ++ a .value .now) _ (omega (arith, length-append (a .key .now) (a .value .now))) (cc (length-append (a .key .now) (a .value .now), all-stripes (a .key .now ++ a .value .now)))
+returns c = search (needs, whole-both)
 
 pub over-240-spec : {M : Type 1} → statement M
 over-240-spec =
-    tie.close (tie.spec add-n stripes-requires last-requires low-requires high-requires returns)
+    tie.close
+    (tie.spec slice-aggregate-from-241 slice-aggregate-from-241-2 from-241-requires returns)

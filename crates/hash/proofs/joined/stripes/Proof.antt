@@ -1,11 +1,7 @@
--- The first stripe crosses, all stripes stand in key, or those of border are followed by those in value.
-use mathlib.Core.Path.{sym, ap}
-use Prim.Native.Nat.{_+_, _-_, _/_}
+-- The first stripe crosses (after-first), all stripes stand in key (all-in-first), or those of border are followed by those in value (after-border).
 use native.Mathlib.Omega.{arith}
-use lib.ListN.{length}
-use lib.Seq.{take-length}
-use Rattle.hash.specs.Large.{accLarge}
-use Rattle.hash.proofs.Seam.{in-first, in-second}
+use Rattle.hash.proofs.Classes.{whole-length}
+use Rattle.hash.proofs.Seam.{all-in-first, after-first, after-border}
 use borrow.Author.Needs.{needs}
 use Rattle.hash.proofs.joined.stripes.Statement.{statement}
 use Rattle.hash.proofs.joined.stripes.Tie as tie
@@ -26,7 +22,7 @@ first-requires : tie.Need-first-requires
 first-requires c κs = search needs
 
 slice-aggregate-go-on : tie.Need-slice-aggregate-go-on
-slice-aggregate-go-on c = let a = c .before .before .before .before .before .before .before .args in sym (ap length (take-length (a .value .now)))
+slice-aggregate-go-on c = search (needs, whole-length)
 
 sub-go-on : tie.Need-sub-go-on
 sub-go-on c = search needs
@@ -35,22 +31,22 @@ sub-go-on-2 : tie.Need-sub-go-on-2
 sub-go-on-2 c = search needs
 
 go-on-requires : tie.Need-go-on-requires
-go-on-requires c κs = let a = c .before .before .before .before .before .before .before .args in omega (arith, ap length (take-length (a .value .now)))
+go-on-requires c κs = let a = c .before .before .before .before .before .before .before .args in omega (arith, whole-length (a .value .now))
 
 returns : tie.Need-returns
-returns c = let a = c .before .before .before .before .before .before .before .before .args in cc (take-length (a .value .now), in-second (a .key .now) (a .value .now) 1 ((length (a .key .now) + length (a .value .now) - 1) / 64) (omega arith) (omega arith) accLarge)
+returns c = search (needs, after-first)
 
 begin-requires : tie.Need-begin-requires
 begin-requires c κs = search needs
 
 returns-2 : tie.Need-returns-2
-returns-2 c = let a = c .before .before .before .before .before .args in cc (in-first (a .key .now) (a .value .now) ((length (a .key .now) + length (a .value .now) - 1) / 64) (omega arith) accLarge)
+returns-2 c = search (needs, all-in-first)
 
 border-requires : tie.Need-border-requires
 border-requires c κs = search needs
 
 slice-aggregate-go-on-2 : tie.Need-slice-aggregate-go-on-2
-slice-aggregate-go-on-2 c = let a = c .before .before .before .before .before .before .args in sym (ap length (take-length (a .value .now)))
+slice-aggregate-go-on-2 c = search (needs, whole-length)
 
 add-go-on : tie.Need-add-go-on
 add-go-on c = search needs
@@ -71,10 +67,10 @@ sub-go-on-4 : tie.Need-sub-go-on-4
 sub-go-on-4 c = search needs
 
 go-on-requires-2 : tie.Need-go-on-requires-2
-go-on-requires-2 c κs = let a = c .before .before .before .before .before .before .args in omega (arith, ap length (take-length (a .value .now)))
+go-on-requires-2 c κs = let a = c .before .before .before .before .before .before .args in omega (arith, whole-length (a .value .now))
 
 returns-3 : tie.Need-returns-3
-returns-3 c = let a = c .before .before .before .before .before .before .before .args in cc (take-length (a .value .now), in-second (a .key .now) (a .value .now) (length (a .key .now) / 64 + 1) ((length (a .key .now) + length (a .value .now) - 1) / 64) (omega arith) (omega arith) accLarge)
+returns-3 c = search (needs, after-border)
 
 pub stripes-spec : {M : Type 1} → statement M
 stripes-spec =

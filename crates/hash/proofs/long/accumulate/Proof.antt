@@ -1,11 +1,11 @@
 -- A turn of the loop is one lane of the description, with a word of w for the secret's.
 use mathlib.Core.Path.{_≡_, refl}
 use Prim.Native.Nat.{_≤_, _-_}
-use native.Mathlib.Numerals.{add-one}
 use native.Mathlib.Omega.{arith}
 use Rattle.hash.specs.Notation.{u64s, forUp}
 use Rattle.hash.specs.Large.{accumulateLane}
-use Rattle.hash.specs.ShapeLong.{laneOf}
+use Rattle.hash.proofs.Loops.{forUp-done}
+use Rattle.hash.proofs.Turns.{next-lane}
 use borrow.Author.Needs.{needs}
 use Rattle.hash.proofs.long.accumulate.Statement.{statement}
 use Rattle.hash.proofs.long.accumulate.Tie as tie
@@ -48,11 +48,13 @@ loop-less : tie.Need-loop-less Inv-loop μ-loop
 loop-less c = search needs
 
 loop-again : tie.Need-loop-again Inv-loop μ-loop
-unfolding forUp accumulateLane laneOf u64s
-loop-again c = (omega arith, rw add-one (cc))
+unfolding u64s
+loop-again c =
+    let l = c .before .before .before .before .before .loop in
+    (search needs, next-lane (u64s _ _) (u64s _ _) (l .k) _ (l .inv .1) (c .before .before .before .read64 .ensures) (c .before .read642 .ensures) (c .lane .ensures))
 
 returns : tie.Need-returns Inv-loop μ-loop
-returns c = let e : c .before .loop .k ≡ 8 = omega arith in cc
+returns c = search (needs, forUp-done)
 
 pub accumulate-spec : {M : Type 1} → statement M
 accumulate-spec =

@@ -1,13 +1,13 @@
 -- A turn of the loop is one stripe, its words of the secret taken from the table.
 use mathlib.Core.Path.{_≡_, refl}
-use Prim.Native.Nat.{ℕ, _+_, _*_, _≤_, _-_}
-use native.Mathlib.Numerals.{add-one}
+use Prim.Native.Nat.{_≤_, _-_}
 use native.Mathlib.Omega.{arith}
 use Rattle.hash.specs.Notation.{forUp}
 use Rattle.hash.specs.Secret.{secret}
 use Rattle.hash.specs.Large.{accLarge}
-use Rattle.hash.specs.ShapeLong.{twice, stepAt, stripesOf}
-use Rattle.hash.proofs.Tables.{place-lanes}
+use Rattle.hash.specs.ShapeLong.{twice, stripesOf}
+use Rattle.hash.proofs.Loops.{forUp-done}
+use Rattle.hash.proofs.Turns.{next-from-start}
 use borrow.Author.Needs.{needs}
 use Rattle.hash.proofs.long.begin.Statement.{statement}
 use Rattle.hash.proofs.long.begin.Tie as tie
@@ -41,16 +41,13 @@ loop-less : tie.Need-loop-less Inv-loop μ-loop
 loop-less c = search needs
 
 loop-again : tie.Need-loop-again Inv-loop μ-loop
-unfolding forUp stepAt
 loop-again c =
     let l = c .before .before .before .before .before .loop in
     let a = c .before .before .before .before .before .before .before .args in
-    let e : _≡_ {A = ℕ} (0 + l .t) (l .t) = omega arith in
-    let f : _≡_ {A = ℕ} (0 + 64 * l .t) (64 * l .t) = omega arith in
-    (omega arith, l .inv .1, rw add-one (cc (place-lanes (a .s .now) _ (64 * l .t) (l .t) (l .r) (l .inv .1))))
+    (search needs, l .inv .1, next-from-start (a .s .now) (l .t) _ (l .inv .1) (l .inv .2) (c .before .before .place .ensures .0) (c .before .accumulate .ensures) (c .block-end .ensures))
 
 returns : tie.Need-returns Inv-loop μ-loop
-returns c = let e : c .before .loop .t ≡ c .before .before .before .args .n = omega arith in cc
+returns c = search (needs, forUp-done)
 
 pub begin-spec : {M : Type 1} → statement M
 begin-spec =

@@ -1,12 +1,12 @@
 -- A turn of the loop is one stripe, its words of the secret taken from the table.
 use mathlib.Core.Path.{_≡_, refl}
-use Prim.Native.Nat.{_+_, _*_, _≤_, _-_}
-use native.Mathlib.Numerals.{add-one}
+use Prim.Native.Nat.{_≤_, _-_}
 use native.Mathlib.Omega.{arith}
 use Rattle.hash.specs.Notation.{forUp}
 use Rattle.hash.specs.Secret.{secret}
-use Rattle.hash.specs.ShapeLong.{twice, stepAt, stripesOf}
-use Rattle.hash.proofs.Tables.{place-lanes}
+use Rattle.hash.specs.ShapeLong.{twice, stripesOf}
+use Rattle.hash.proofs.Loops.{forUp-done}
+use Rattle.hash.proofs.Turns.{next-stripe}
 use borrow.Author.Needs.{needs}
 use Rattle.hash.proofs.long.go_on.Statement.{statement}
 use Rattle.hash.proofs.long.go_on.Tie as tie
@@ -49,14 +49,13 @@ loop-less : tie.Need-loop-less Inv-loop μ-loop
 loop-less c = search needs
 
 loop-again : tie.Need-loop-again Inv-loop μ-loop
-unfolding forUp stepAt
 loop-again c =
     let l = c .before .before .before .before .before .loop in
     let a = c .before .before .before .before .before .before .before .args in
-    (omega arith, l .inv .1, rw add-one (cc (place-lanes (a .s .now) _ (a .i + 64 * l .k) (a .t + l .k) (l .r) (l .inv .1))))
+    (search needs, l .inv .1, next-stripe (a .s .now) (a .i) (a .t) (l .k) _ (l .inv .1) (l .inv .2) (c .before .before .place .ensures .0) (c .before .accumulate .ensures) (c .block-end .ensures))
 
 returns : tie.Need-returns Inv-loop μ-loop
-returns c = let e : c .before .loop .k ≡ c .before .before .before .args .n = omega arith in cc
+returns c = search (needs, forUp-done)
 
 pub go-on-spec : {M : Type 1} → statement M
 go-on-spec =

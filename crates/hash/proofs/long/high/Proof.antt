@@ -1,5 +1,6 @@
 -- The four pairs are the turns of the description's loop, with the secret's words written out.
-use Rattle.hash.specs.Notation.{mul64, not64, PRIME64-2}
+use mathlib.Core.Path.{ap}
+use Rattle.hash.specs.Notation.{not64}
 use Prim.Native.Nat.{_-_}
 use Rattle.hash.specs.Secret.{secretLength}
 use Rattle.hash.proofs.Tables.{merge-eight, words-high}
@@ -50,7 +51,13 @@ avalanche-requires : tie.Need-avalanche-requires
 avalanche-requires c κs = search needs
 
 returns : tie.Need-returns
-returns c = let a = c .before .before .before .before .before .before .args in cc (merge-eight (a .t1) (not64 (mul64 (a .n) PRIME64-2)) (secretLength - 75) _ _ _ _ _ _ _ _ words-high)
+returns c =
+    let c₄ = c .before in
+    let c₃ = c₄ .before in
+    let c₂ = c₃ .before in
+    let c₁ = c₂ .before in
+    let c₀ = c₁ .before in
+    merge-eight (c₀ .before .args .t1) (secretLength - 75) words-high (ap not64 (c₀ .wrapping-mul .ensures)) (c₁ .pair .ensures) (c₂ .pair2 .ensures) (c₃ .pair3 .ensures) (c₄ .pair4 .ensures) (c .avalanche .ensures)
 
 pub high-spec : {M : Type 1} → statement M
 high-spec =

@@ -7,7 +7,7 @@ use lib.Pow.{pow-pos, shr-lt}
 use lib.Bits.{bitXor, xor-lt}
 use Prim.Native.Nat.{_<_}
 use Rattle.numbers.specs.WideLaws.{product-fits}
-use Rattle.hash.specs.ShapeLong.{laneOf}
+use Rattle.hash.proofs.Lanes.{lane-law}
 use Rattle.hash.proofs.long.lane.Statement.{statement}
 use Rattle.hash.proofs.long.lane.Tie as tie
 
@@ -45,8 +45,7 @@ array-write-r-2 : tie.Need-array-write-r-2
 array-write-r-2 c = search needs
 
 returns : tie.Need-returns
-unfolding laneOf
-returns c = cc
+returns c = search (needs, lane-law)
 
 pub lane-spec : {M : Type 1} → statement M
 lane-spec =

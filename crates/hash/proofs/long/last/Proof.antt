@@ -1,13 +1,13 @@
 -- A turn of the loop is one lane of the description, with a word of the table for the secret's.
 use mathlib.Core.Path.{_≡_, refl}
 use Prim.Native.Nat.{_≤_, _-_}
-use native.Mathlib.Numerals.{add-one}
 use native.Mathlib.Omega.{arith}
 use Rattle.hash.specs.Notation.{u64s, forUp}
 use Rattle.hash.specs.Secret.{secret, secretLength}
 use Rattle.hash.specs.Large.{accumulateLane, accumulate}
-use Rattle.hash.specs.ShapeLong.{laneOf}
+use Rattle.hash.proofs.Loops.{forUp-done}
 use Rattle.hash.proofs.Tables.{words-tail}
+use Rattle.hash.proofs.Turns.{next-lane}
 use borrow.Author.Needs.{needs}
 use Rattle.hash.proofs.long.last.Statement.{statement}
 use Rattle.hash.proofs.long.last.Tie as tie
@@ -47,12 +47,15 @@ loop-less : tie.Need-loop-less Inv-loop μ-loop
 loop-less c = search needs
 
 loop-again : tie.Need-loop-again Inv-loop μ-loop
-unfolding forUp accumulateLane laneOf u64s
-loop-again c = (omega arith, rw add-one (cc (words-tail (c .before .before .before .loop .k) (omega arith))))
+unfolding u64s
+loop-again c =
+    let t = c .before .before in
+    let l = t .before .loop in
+    (search needs, next-lane (u64s _ _) (u64s secret (secretLength - 71)) (l .k) _ (l .inv .1) (c .before .read64 .ensures) (words-tail (l .k) (t .loop-test .taken)) (c .lane .ensures))
 
 returns : tie.Need-returns Inv-loop μ-loop
 unfolding accumulate
-returns c = let e : c .before .loop .k ≡ 8 = omega arith in cc
+returns c = search (needs, forUp-done)
 
 pub last-spec : {M : Type 1} → statement M
 last-spec =

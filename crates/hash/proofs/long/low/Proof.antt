@@ -1,5 +1,4 @@
 -- The four pairs are the turns of the description's loop, with the secret's words written out.
-use Rattle.hash.specs.Notation.{mul64, PRIME64-1}
 use Rattle.hash.proofs.Tables.{merge-eight, words-low}
 use borrow.Author.Needs.{needs}
 use Rattle.hash.proofs.long.low.Statement.{statement}
@@ -48,7 +47,13 @@ avalanche-requires : tie.Need-avalanche-requires
 avalanche-requires c κs = search needs
 
 returns : tie.Need-returns
-returns c = let a = c .before .before .before .before .before .before .args in cc (merge-eight (a .t1) (mul64 (a .n) PRIME64-1) 11 _ _ _ _ _ _ _ _ words-low)
+returns c =
+    let c₄ = c .before in
+    let c₃ = c₄ .before in
+    let c₂ = c₃ .before in
+    let c₁ = c₂ .before in
+    let c₀ = c₁ .before in
+    merge-eight (c₀ .before .args .t1) 11 words-low (c₀ .wrapping-mul .ensures) (c₁ .pair .ensures) (c₂ .pair2 .ensures) (c₃ .pair3 .ensures) (c₄ .pair4 .ensures) (c .avalanche .ensures)
 
 pub low-spec : {M : Type 1} → statement M
 low-spec =

@@ -1,48 +1,17 @@
--- All stripes and the last are the description's accumulation (all-stripes); a slice up to its length is the slice.
-use mathlib.Core.Path.{sym, ap}
-use native.Mathlib.Omega.{arith}
-use lib.ListN.{length}
-use lib.Seq.{take-length}
-use Rattle.hash.specs.Large.{XXH3-128-large}
-use Rattle.hash.proofs.Whole.{all-stripes}
+-- A slice up to its length is the slice.
+use Rattle.hash.proofs.Classes.{whole-length, whole-more, whole-large}
 use borrow.Author.Needs.{needs}
 use Rattle.hash.proofs.long.over_240.Statement.{statement}
 use Rattle.hash.proofs.long.over_240.Tie as tie
 
-slice-aggregate-begin : tie.Need-slice-aggregate-begin
-slice-aggregate-begin c = sym (ap length (take-length (c .before .before .args .s .now)))
+slice-aggregate-from-241 : tie.Need-slice-aggregate-from-241
+slice-aggregate-from-241 c = search (needs, whole-length)
 
-sub-begin : tie.Need-sub-begin
-sub-begin c = search needs
-
-begin-requires : tie.Need-begin-requires
-begin-requires c κs = omega (arith, ap length (take-length (c .before .before .args .s .now)))
-
-sub-last : tie.Need-sub-last
-sub-last c = search needs
-
-last-requires : tie.Need-last-requires
-last-requires c κs = search needs
-
-low-requires : tie.Need-low-requires
-low-requires c κs = search needs
-
-high-requires : tie.Need-high-requires
-high-requires c κs = search needs
+from-241-requires : tie.Need-from-241-requires
+from-241-requires c κs = search (needs, whole-more)
 
 returns : tie.Need-returns
-unfolding XXH3-128-large
-returns c = let s = c .before .before .before .before .before .before .args .s .now in cc (take-length s, all-stripes s)
+returns c = search (needs, whole-large)
 
 pub over-240-spec : {M : Type 1} → statement M
-over-240-spec =
-    tie.close
-    (tie.spec
-    slice-aggregate-begin
-    sub-begin
-    begin-requires
-    sub-last
-    last-requires
-    low-requires
-    high-requires
-    returns)
+over-240-spec = tie.close (tie.spec slice-aggregate-from-241 from-241-requires returns)

@@ -1,14 +1,14 @@
 -- A turn of the loop is the description's, with a word of the table for the secret's.
 use borrow.Author.Needs.{needs}
-use mathlib.Core.Path.{_≡_, refl}
+use mathlib.Core.Path.{_≡_, refl, _∙_}
 use Prim.Native.Nat.{_≤_, _-_}
-use native.Mathlib.Numerals.{add-one}
 use native.Mathlib.Omega.{arith}
 use lib.ListN.{length, length-set}
 use Rattle.hash.specs.Notation.{u64s, forUp}
 use Rattle.hash.specs.Secret.{secret, secretLength}
 use Rattle.hash.specs.Large.{scrambleLane, round-scramble}
-use Rattle.hash.proofs.Tables.{words-last}
+use Rattle.hash.proofs.Loops.{forUp-done}
+use Rattle.hash.proofs.Turns.{next-scrambled}
 use Rattle.hash.proofs.long.scramble.Statement.{statement}
 use Rattle.hash.proofs.long.scramble.Tie as tie
 
@@ -56,12 +56,14 @@ loop-less : tie.Need-loop-less Inv-loop μ-loop
 loop-less c = search needs
 
 loop-again : tie.Need-loop-again Inv-loop μ-loop
-unfolding forUp scrambleLane
-loop-again c = (omega arith, simp length-set (omega arith), rw add-one (cc (words-last (c .before .before .loop .k) (omega arith))))
+loop-again c =
+    let t = c .before in
+    let l = t .before .loop in
+    (search needs, length-set (l .r) (l .k) _ ∙ l .inv .1, next-scrambled (l .k) _ (t .loop-test .taken) (l .inv .2) (c .wrapping-mul .ensures))
 
 returns : tie.Need-returns Inv-loop μ-loop
 unfolding round-scramble
-returns c = let e : c .before .loop .k ≡ 8 = omega arith in cc
+returns c = search (needs, forUp-done)
 
 pub scramble-spec : {M : Type 1} → statement M
 scramble-spec =

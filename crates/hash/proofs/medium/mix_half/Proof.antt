@@ -1,4 +1,5 @@
 -- The steps in turn.
+use Rattle.hash.proofs.Chunks.{half-law}
 use borrow.Author.Needs.{needs}
 use Rattle.hash.proofs.medium.mix_half.Statement.{statement}
 use Rattle.hash.proofs.medium.mix_half.Tie as tie
@@ -14,7 +15,7 @@ wrapping-add-u64-requires-2 : tie.Need-wrapping-add-u64-requires-2
 wrapping-add-u64-requires-2 c κs = search needs
 
 returns : tie.Need-returns
-returns c = cc
+returns c = search (needs, half-law)
 
 pub mix-half-spec : {M : Type 1} → statement M
 mix-half-spec =

@@ -1,4 +1,5 @@
 -- The three chunks in turn.
+use Rattle.hash.proofs.Chunks.{rest-law}
 use borrow.Author.Needs.{needs}
 use Rattle.hash.proofs.medium.rest.Statement.{statement}
 use Rattle.hash.proofs.medium.rest.Tie as tie
@@ -13,7 +14,7 @@ seventh-requires : tie.Need-seventh-requires
 seventh-requires c κs = search needs
 
 returns : tie.Need-returns
-returns c = cc
+returns c = search (needs, rest-law)
 
 pub rest-spec : {M : Type 1} → statement M
 rest-spec = tie.close (tie.spec fifth-requires sixth-requires seventh-requires returns)

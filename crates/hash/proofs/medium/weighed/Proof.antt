@@ -1,4 +1,5 @@
 -- The three products and their sum.
+use Rattle.hash.proofs.Chunks.{weighed-law}
 use borrow.Author.Needs.{needs}
 use Rattle.hash.proofs.medium.weighed.Statement.{statement}
 use Rattle.hash.proofs.medium.weighed.Tie as tie
@@ -21,7 +22,7 @@ wrapping-add-u64-requires-2 : tie.Need-wrapping-add-u64-requires-2
 wrapping-add-u64-requires-2 c κs = search needs
 
 returns : tie.Need-returns
-returns c = cc
+returns c = search (needs, weighed-law)
 
 pub weighed-spec : {M : Type 1} → statement M
 weighed-spec =

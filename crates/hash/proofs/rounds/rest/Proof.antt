@@ -1,4 +1,5 @@
--- The chunks in turn.
+-- The three chunks in turn (rest-law).
+use Rattle.hash.proofs.Chunks.{rest-law}
 use borrow.Author.Needs.{needs}
 use Rattle.hash.proofs.rounds.rest.Statement.{statement}
 use Rattle.hash.proofs.rounds.rest.Tie as tie
@@ -13,7 +14,7 @@ seventh-chunk-requires : tie.Need-seventh-chunk-requires
 seventh-chunk-requires c κs = search needs
 
 returns : tie.Need-returns
-returns c = cc
+returns c = search (needs, rest-law)
 
 pub rest-spec : {M : Type 1} → statement M
 rest-spec =

@@ -1,5 +1,5 @@
 -- The same fields in the same places.
-use Rattle.hash.specs.Small.{combined}
+use Rattle.hash.proofs.Small.{combined-law}
 use borrow.Author.Needs.{needs}
 use Rattle.hash.proofs.short.combined.Statement.{statement}
 use Rattle.hash.proofs.short.combined.Tie as tie
@@ -29,8 +29,7 @@ byte32-requires-3 : tie.Need-byte32-requires-3
 byte32-requires-3 c κs = search needs
 
 returns : tie.Need-returns
-unfolding combined
-returns c = cc
+returns c = search (needs, combined-law)
 
 pub combined-spec : {M : Type 1} → statement M
 combined-spec =

@@ -1,5 +1,5 @@
 -- The steps in turn.
-use Rattle.hash.specs.Shape.{end4to8}
+use Rattle.hash.proofs.Small.{end-8-law}
 use borrow.Author.Needs.{needs}
 use Rattle.hash.proofs.short.end_4_to_8.Statement.{statement}
 use Rattle.hash.proofs.short.end_4_to_8.Tie as tie
@@ -12,8 +12,7 @@ avalanche-requires : tie.Need-avalanche-requires
 avalanche-requires c κs = search needs
 
 returns : tie.Need-returns
-unfolding end4to8
-returns c = cc
+returns c = search (needs, end-8-law)
 
 pub end-4-to-8-spec : {M : Type 1} → statement M
 end-4-to-8-spec = tie.close (tie.spec wrapping-mul-requires avalanche-requires returns)

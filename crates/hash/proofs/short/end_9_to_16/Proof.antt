@@ -1,5 +1,5 @@
 -- The steps in turn.
-use Rattle.hash.specs.Shape.{end9to16}
+use Rattle.hash.proofs.Small.{end-16-law}
 use borrow.Author.Needs.{needs}
 use Rattle.hash.proofs.short.end_9_to_16.Statement.{statement}
 use Rattle.hash.proofs.short.end_9_to_16.Tie as tie
@@ -30,8 +30,7 @@ avalanche-requires-2 : tie.Need-avalanche-requires-2
 avalanche-requires-2 c κs = search needs
 
 returns : tie.Need-returns
-unfolding end9to16
-returns c = cc
+returns c = search (needs, end-16-law)
 
 pub end-9-to-16-spec : {M : Type 1} → statement M
 end-9-to-16-spec =

@@ -1,5 +1,5 @@
 -- The halves of the product, and the steps after it.
-use Rattle.hash.specs.Shape.{mix4to8}
+use Rattle.hash.proofs.Small.{mix-8-law}
 use borrow.Author.Needs.{needs}
 use Rattle.hash.proofs.short.mix_4_to_8.Statement.{statement}
 use Rattle.hash.proofs.short.mix_4_to_8.Tie as tie
@@ -20,8 +20,7 @@ end-4-to-8-requires : tie.Need-end-4-to-8-requires
 end-4-to-8-requires c κs = search needs
 
 returns : tie.Need-returns
-unfolding mix4to8
-returns c = cc
+returns c = search (needs, mix-8-law)
 
 pub mix-4-to-8-spec : {M : Type 1} → statement M
 mix-4-to-8-spec =

@@ -1,7 +1,5 @@
 -- The halves of the product, and the steps after it.
-use Prim.Native.Nat.{_*_, _/_, _^_}
-use Rattle.hash.proofs.Small.{val2-sum}
-use Rattle.hash.specs.Shape.{mix9to16}
+use Rattle.hash.proofs.Small.{mix-16-law}
 use borrow.Author.Needs.{needs}
 use Rattle.hash.proofs.short.mix_9_to_16.Statement.{statement}
 use Rattle.hash.proofs.short.mix_9_to_16.Tie as tie
@@ -34,8 +32,7 @@ end-9-to-16-requires : tie.Need-end-9-to-16-requires
 end-9-to-16-requires c κs = search needs
 
 returns : tie.Need-returns
-unfolding mix9to16
-returns c = cc (val2-sum (c .before .before .before .before .before .before .args .x * 0x9e3779b185ebca87 / 2 ^ 64) (c .before .before .before .before .before .before .args .v))
+returns c = search (needs, mix-16-law)
 
 pub mix-9-to-16-spec : {M : Type 1} → statement M
 mix-9-to-16-spec =
