@@ -1,4 +1,4 @@
--- The theorems of specs/Theorems.antt, proved; and what the walks by hand in held/ share.
+-- The theorems of specs/Theorems.antt, proved; what the walks by hand in held/ share; and the laws over plain variables that the other proofs cite.
 mod Back
 mod Written
 mod Moved
@@ -7,3 +7,5 @@ mod Short
 mod Locals
 mod Bodies
 mod Holding
+mod Sums
+mod Fields

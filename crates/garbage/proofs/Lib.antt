@@ -3,6 +3,7 @@ pub mod Insert
 pub mod Halving
 pub mod Added
 pub mod Fits
+pub mod Grown
 pub mod Slots
 pub mod Sound
 pub mod Dropping

@@ -156,11 +156,6 @@ module _ (k v : List ℕ) where
   two-words i j x y ej ex ey = chunk-law (k ++ v) i x y ex (ey ∙ ap (λ (n : ℕ). num 8 (drop n (k ++ v))) ej)
 
 -- the end of a list, at the top of a word
-pub end-none : (s : List ℕ) → length s ≡ 0 → 0 ≡ endOf s
-unfolding endOf num
-end-none [] h = refl
-end-none (b ∷ s) h = absurd (omega arith)
-
 module _ (s : List ℕ) where
   pub end-long : (r : ℕ) → 8 ≤ length s → r ≡ num 8 (drop (length s - 8) s) → r ≡ endOf s
   unfolding endOf
@@ -168,17 +163,27 @@ module _ (s : List ℕ) where
       let f : 8 - length s ≡ 0 = omega arith in
       e ∙ rw f (omega arith)
 
-  pub end-short : (x : ℕ) → Bytes s → length s < 8 → x ≡ num 8 s → x * 2 ^ (64 - 8 * length s) % 2 ^ 64 ≡ endOf s
+  few-lt : Bytes s → length s < 8 → num 8 s < 2 ^ (8 * length s)
+  few-lt bs h =
+      let n = length s in
+      let c : 8 ≡ n + (8 - n) = omega arith in
+      let f : num 8 s ≡ num n s = ap (λ (j : ℕ). num j s) c ∙ num-short n (8 - n) s (le-refl n) in
+      rw (f, ← bits n) (num-lt n s bs)
+
+  -- moved up in two steps, of which neither is a whole word
+  pub end-short : (x : ℕ) → Bytes s → length s < 8 → x ≡ num 8 s → x * 2 ^ (56 - 8 * length s) % 2 ^ 64 * 2 ^ 8 % 2 ^ 64 ≡ endOf s
   unfolding endOf
   end-short x bs h e =
       let n = length s in
+      let m = num 8 s in
       let a : n - 8 ≡ 0 = omega arith in
-      let b : 64 - 8 * n ≡ 8 * (8 - n) = omega arith in
-      let c : 8 ≡ n + (8 - n) = omega arith in
-      let f : num 8 s ≡ num n s = ap (λ (j : ℕ). num j s) c ∙ num-short n (8 - n) s (le-refl n) in
-      let g : num 8 s < 2 ^ (8 * n) = rw (f, ← bits n) (num-lt n s bs) in
-      ap (λ (y : ℕ). y * 2 ^ (64 - 8 * n) % 2 ^ 64) e ∙ shl-exact {a = num 8 s} (8 * n) (64 - 8 * n) 64 g (omega arith)
-      ∙ ap (λ (y : ℕ). num 8 s * y) (ap (λ (j : ℕ). 2 ^ j) b ∙ sym (bits (8 - n))) ∙ ap (λ (j : ℕ). num 8 (drop j s) * 256 ^ (8 - n)) (sym a)
+      let b : 56 - 8 * n + 8 ≡ 8 * (8 - n) = omega arith in
+      let g : m < 2 ^ (8 * n) = few-lt bs h in
+      let u : m * 2 ^ (56 - 8 * n) % 2 ^ 64 ≡ m * 2 ^ (56 - 8 * n) = shl-exact {a = m} (8 * n) (56 - 8 * n) 64 g (omega arith) in
+      let v : m * 2 ^ (56 - 8 * n) * 2 ^ 8 ≡ m * 2 ^ (56 - 8 * n + 8) = mul-assoc m (2 ^ (56 - 8 * n)) (2 ^ 8) ∙ ap (λ (y : ℕ). m * y) (sym (pow-add 2 (56 - 8 * n) 8)) in
+      ap (λ (y : ℕ). y * 2 ^ (56 - 8 * n) % 2 ^ 64 * 2 ^ 8 % 2 ^ 64) e ∙ ap (λ (y : ℕ). y * 2 ^ 8 % 2 ^ 64) u ∙ ap (λ (y : ℕ). y % 2 ^ 64) v
+      ∙ shl-exact {a = m} (8 * n) (56 - 8 * n + 8) 64 g (omega arith)
+      ∙ ap (λ (y : ℕ). m * y) (ap (λ (j : ℕ). 2 ^ j) b ∙ sym (bits (8 - n))) ∙ ap (λ (j : ℕ). num 8 (drop j s) * 256 ^ (8 - n)) (sym a)
 
   -- fewer than eight bytes, as two words of four of which the second begins at the end's fourth byte, or as one
   pub few-by-fours : (x y : ℕ) → Bytes s → 4 ≤ length s → length s < 8 → x ≡ num 4 s → x < 2 ^ 32 → y ≡ num 4 (drop (length s - 4) s) → bitOr x (y / 2 ^ (8 * (8 - length s)) * 2 ^ 32 % 2 ^ 64) ≡ num 8 s

@@ -5,13 +5,14 @@ mod Chunks
 mod Classes
 mod First
 mod Gather
-mod Joint
 mod JoinedLarge
 mod JoinedRounds
+mod Joint
 mod Lanes
 mod Loops
 mod Parts
 mod Seam
+mod SecretWords
 mod Small
 mod Stripes
 mod Tables

@@ -15,11 +15,11 @@ use Rattle.hash.specs.ShapeLong.{twice, placeOf, lanesOf, pairOf}
 use Rattle.hash.proofs.Parts.{same-words}
 use Rattle.hash.proofs.Stripes.{lanes-same}
 
-abbrev eight : (ℕ → ℕ) → List ℕ
+abbrev pub eight : (ℕ → ℕ) → List ℕ
 eight f = f 0 ∷ f 1 ∷ f 2 ∷ f 3 ∷ f 4 ∷ f 5 ∷ f 6 ∷ f 7 ∷ []
 
 -- eight entries, one by one
-at-eight : (f : ℕ → ℕ) (k : ℕ) → k < 8 → getD (eight f) k 0 ≡ f k
+pub at-eight : (f : ℕ → ℕ) (k : ℕ) → k < 8 → getD (eight f) k 0 ≡ f k
 at-eight f zero h = refl
 at-eight f (suc zero) h = refl
 at-eight f (suc (suc zero)) h = refl
@@ -34,7 +34,7 @@ at-eight f (suc (suc (suc (suc (suc (suc (suc (suc k)))))))) h = absurd (omega a
 abbrev pub last : List ℕ
 last = 0xc3ebd33483acc5ea ∷ 0xeb6313faffa081c5 ∷ 0x49daf0b751dd0d17 ∷ 0x9e68d429265516d3 ∷ 0xfca1477d58be162b ∷ 0xce31d07ad1b8f88f ∷ 0x280416958f3acb45 ∷ 0x7e404bbbcafbd7af ∷ []
 
-abbrev tail : List ℕ
+abbrev pub tail : List ℕ
 tail = 0xea647378d9c97e9f ∷ 0xc5c3ebd33483acc5 ∷ 0x17eb6313faffa081 ∷ 0xd349daf0b751dd0d ∷ 0x2b9e68d429265516 ∷ 0x8ffca1477d58be16 ∷ 0x45ce31d07ad1b8f8 ∷ 0xaf280416958f3acb ∷ []
 
 pub words-last : (k : ℕ) → k < 8 → getD last k 0 ≡ u64s secret (secretLength - 64) k

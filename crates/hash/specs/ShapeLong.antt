@@ -21,6 +21,10 @@ laneOf i d x acc =
 abbrev pub lanesOf : List ℕ → ℕ → List ℕ → ℕ → List ℕ → List ℕ
 lanesOf s i w o = forUp 8 (accumulateLane (u64s s i) (u64s w o))
 
+-- the same with the words in w
+abbrev pub withWords : List ℕ → ℕ → List ℕ → List ℕ → List ℕ
+withWords s i w = forUp 8 (accumulateLane (u64s s i) (λ (k : ℕ). getD w k 0))
+
 -- the first n lanes of the first stripe
 abbrev pub firstLanes : List ℕ → ℕ → List ℕ
 firstLanes s n = forUp n (accumulateLane (u64s s 0) (u64s secret 0)) accLarge

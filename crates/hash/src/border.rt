@@ -42,10 +42,7 @@ pub(crate) fn end(s: &[u8]) -> u64
     if 8 <= n {
         return read64(s, n - 8);
     }
-    if n == 0 {
-        return 0;
-    }
-    few(&s[..n]) << (64 - 8 * (n as u32))
+    (few(&s[..n]) << (56 - 8 * (n as u32))) << 8
 }
 
 // The word of which the first d bytes stand in key.

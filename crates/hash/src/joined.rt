@@ -14,6 +14,7 @@ use super::Hash128;
 use super::border::end;
 use super::border::front;
 use super::border::head;
+use super::early;
 use super::long;
 use super::medium;
 use super::rounds::from_17_to_32;
@@ -158,6 +159,9 @@ fn stripes(key: &[u8], value: &[u8]) -> [u64; 8]
     let n = (m + v - 1) / 64;
     if p == 0 {
         let r = first(key, value, end(key), head(value));
+        if n <= 8 {
+            return early::stripes(r, &value[..v], 64 - m, n - 1);
+        }
         return long::go_on(r, &value[..v], 64 - m, 1, n - 1);
     }
     if n <= p {

@@ -4,6 +4,7 @@ ghost use mathlib.Core.List.{_++_};
 ghost use Rattle.hash.specs.XXH3.{xxh3-128};
 
 mod border;
+mod early;
 mod joined;
 mod long;
 mod medium;

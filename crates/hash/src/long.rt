@@ -5,7 +5,7 @@ ghost use lib.ListN.{length};
 ghost use Rattle.hash.specs.Notation.{mul64, not64, u64s, PRIME64-1, PRIME64-2};
 ghost use Rattle.hash.specs.Secret.{secretLength};
 ghost use Rattle.hash.specs.Large.{accLarge, accumulate, round-scramble, finalMerge, XXH3-128-large};
-ghost use Rattle.hash.specs.ShapeLong.{placeOf, laneOf, lanesOf, blockEnd, stripesOf, pairOf};
+ghost use Rattle.hash.specs.ShapeLong.{placeOf, laneOf, lanesOf, withWords, blockEnd, stripesOf, pairOf};
 ghost use Rattle.hash.specs.XXH3.{xxh3-128};
 use super::Hash128;
 use super::medium::Two;
@@ -503,12 +503,11 @@ pub(crate) fn go_on(acc: [u64; 8], s: &[u8], i: usize, t: usize, n: usize) -> [u
     r
 }
 
-// The last 64 bytes, from i on.
-pub(crate) fn last(acc: [u64; 8], s: &[u8], i: usize) -> [u64; 8]
+// One stripe, with the words w of the secret.
+pub(crate) fn stripe(acc: [u64; 8], s: &[u8], i: usize, w: [u64; 8]) -> [u64; 8]
     requires { ⌜ i + 64 ≤ length (now s) ⌝ }
-    ensures { λ r. ⌜ r ≡ accumulate (u64s (now (s .entry)) i) (secretLength - 71) acc ⌝ }
+    ensures { λ r. ⌜ r ≡ withWords (now (s .entry)) i w acc ⌝ }
 {
-    let w = TAIL;
     let mut r = acc;
     let mut k = 0;
     while k < 8 {
@@ -517,6 +516,14 @@ pub(crate) fn last(acc: [u64; 8], s: &[u8], i: usize) -> [u64; 8]
         k += 1;
     }
     r
+}
+
+// The last 64 bytes, from i on.
+pub(crate) fn last(acc: [u64; 8], s: &[u8], i: usize) -> [u64; 8]
+    requires { ⌜ i + 64 ≤ length (now s) ⌝ }
+    ensures { λ r. ⌜ r ≡ accumulate (u64s (now (s .entry)) i) (secretLength - 71) acc ⌝ }
+{
+    stripe(acc, s, i, TAIL)
 }
 
 // Two accumulators and two words of the secret go into a half of the hash.

@@ -1,5 +1,6 @@
--- What belongs to no one function: the theorems, and what a `let .. else` knows.
+-- What belongs to no one function: the theorems, what a `let .. else` knows, and laws over plain variables that the proofs cite.
 pub mod Answers
 pub mod Fronts
 pub mod Merges
+pub mod Pieces
 pub mod Theorems

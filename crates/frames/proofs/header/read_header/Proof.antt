@@ -1,5 +1,5 @@
 -- The record is the definition, field by field.
-use Rattle.frames.specs.Layout.{headerOf}
+use Rattle.frames.proofs.Fields.{header-law}
 use borrow.Author.Needs.{needs}
 use Rattle.frames.proofs.header.read_header.Statement.{statement}
 use Rattle.frames.proofs.header.read_header.Tie as tie
@@ -23,8 +23,7 @@ get-u32-requires-2 : tie.Need-get-u32-requires-2
 get-u32-requires-2 c κs = search needs
 
 returns : tie.Need-returns
-unfolding headerOf
-returns c = cc
+returns c = search (needs, header-law)
 
 pub read-header-spec : {M : Type 1} → statement M
 read-header-spec =

@@ -1,7 +1,5 @@
 -- The header's key and what follows the given key's length: one part where the lengths are the same.
-use mathlib.Core.Path.{_∙_}
-use Rattle.frames.specs.Point.{takenSum}
-use Rattle.frames.specs.PointLaws.{taken-once}
+use Rattle.frames.proofs.Sums.{one-part-law, two-parts-law}
 use borrow.Author.Needs.{needs}
 use Rattle.frames.proofs.reader.taken_sum.Statement.{statement}
 use Rattle.frames.proofs.reader.taken_sum.Tie as tie
@@ -13,7 +11,7 @@ xxh3-128-requires : tie.Need-xxh3-128-requires
 xxh3-128-requires c κs = search needs
 
 returns : tie.Need-returns
-returns c = c .xxh3-128 .ensures ∙ taken-once _ _ _ _ (search needs) (search needs)
+returns c = search (needs, one-part-law)
 
 part-requires : tie.Need-part-requires
 part-requires c κs = search needs
@@ -28,8 +26,7 @@ xxh3-128-joined-requires : tie.Need-xxh3-128-joined-requires
 xxh3-128-joined-requires c κs = search needs
 
 returns-2 : tie.Need-returns-2
-unfolding takenSum
-returns-2 c = cc
+returns-2 c = search (needs, two-parts-law)
 
 pub taken-sum-spec : {M : Type 1} → statement M
 taken-sum-spec =

@@ -5,7 +5,7 @@ use mathlib.Core.Path.{ap, _∙_}
 use lib.Seq.{take-length}
 use Rattle.numbers.specs.Le.{num}
 use Rattle.hash.proofs.Classes.{whole-length}
-use Rattle.hash.proofs.Joint.{end-long, end-none, end-short}
+use Rattle.hash.proofs.Joint.{end-long, end-short}
 use borrow.Author.Needs.{needs}
 use Rattle.hash.proofs.border.end.Statement.{statement}
 use Rattle.hash.proofs.border.end.Tie as tie
@@ -16,14 +16,11 @@ read64-requires c κs = search needs
 returns : tie.Need-returns
 returns c = search (needs, end-long)
 
-returns-2 : tie.Need-returns-2
-returns-2 c = search (needs, end-none)
-
 slice-aggregate-few : tie.Need-slice-aggregate-few
 slice-aggregate-few c = search (needs, whole-length)
 
 few-requires : tie.Need-few-requires
-few-requires c κs = omega (arith, whole-length (c .before .before .before .before .args .s .now))
+few-requires c κs = omega (arith, whole-length (c .before .before .before .args .s .now))
 
 cast-result : tie.Need-cast-result
 cast-result c = search needs
@@ -40,8 +37,8 @@ cast-result-2 c = search needs
 shl-result : tie.Need-shl-result
 shl-result c = search needs
 
-returns-3 : tie.Need-returns-3
-returns-3 c = let s = c .before .before .before .before .before .args .s .now in end-short s _ (λ (i : ℕ). omega (arith, c .before .before .before .before .shared-slice-known .given i)) (omega arith) (c .few .ensures ∙ ap (num 8) (take-length s))
+returns-2 : tie.Need-returns-2
+returns-2 c = let s = c .before .before .before .before .args .s .now in end-short s _ (λ (i : ℕ). omega (arith, c .before .before .before .shared-slice-known .given i)) (omega arith) (c .few .ensures ∙ ap (num 8) (take-length s))
 
 pub end-spec : {M : Type 1} → statement M
 end-spec =
@@ -49,7 +46,6 @@ end-spec =
     (tie.spec
     read64-requires
     returns
-    returns-2
     slice-aggregate-few
     few-requires
     cast-result
@@ -57,4 +53,4 @@ end-spec =
     sub-result
     cast-result-2
     shl-result
-    returns-3)
+    returns-2)

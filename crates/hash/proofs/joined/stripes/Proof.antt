@@ -21,6 +21,21 @@ head-requires c κs = search needs
 first-requires : tie.Need-first-requires
 first-requires c κs = search needs
 
+slice-aggregate-stripes : tie.Need-slice-aggregate-stripes
+slice-aggregate-stripes c = search (needs, whole-length)
+
+sub-stripes : tie.Need-sub-stripes
+sub-stripes c = search needs
+
+sub-stripes-2 : tie.Need-sub-stripes-2
+sub-stripes-2 c = search needs
+
+stripes-requires : tie.Need-stripes-requires
+stripes-requires c κs = let a = c .before .before .before .before .before .before .before .before .args in (omega (arith, whole-length (a .value .now)), omega arith, omega arith)
+
+returns : tie.Need-returns
+returns c = search (needs, after-first)
+
 slice-aggregate-go-on : tie.Need-slice-aggregate-go-on
 slice-aggregate-go-on c = search (needs, whole-length)
 
@@ -31,16 +46,16 @@ sub-go-on-2 : tie.Need-sub-go-on-2
 sub-go-on-2 c = search needs
 
 go-on-requires : tie.Need-go-on-requires
-go-on-requires c κs = let a = c .before .before .before .before .before .before .before .args in omega (arith, whole-length (a .value .now))
+go-on-requires c κs = let a = c .before .before .before .before .before .before .before .before .args in omega (arith, whole-length (a .value .now))
 
-returns : tie.Need-returns
-returns c = search (needs, after-first)
+returns-2 : tie.Need-returns-2
+returns-2 c = search (needs, after-first)
 
 begin-requires : tie.Need-begin-requires
 begin-requires c κs = search needs
 
-returns-2 : tie.Need-returns-2
-returns-2 c = search (needs, all-in-first)
+returns-3 : tie.Need-returns-3
+returns-3 c = search (needs, all-in-first)
 
 border-requires : tie.Need-border-requires
 border-requires c κs = search needs
@@ -69,8 +84,8 @@ sub-go-on-4 c = search needs
 go-on-requires-2 : tie.Need-go-on-requires-2
 go-on-requires-2 c κs = let a = c .before .before .before .before .before .before .args in omega (arith, whole-length (a .value .now))
 
-returns-3 : tie.Need-returns-3
-returns-3 c = search (needs, after-border)
+returns-4 : tie.Need-returns-4
+returns-4 c = search (needs, after-border)
 
 pub stripes-spec : {M : Type 1} → statement M
 stripes-spec =
@@ -81,13 +96,18 @@ stripes-spec =
     end-requires
     head-requires
     first-requires
+    slice-aggregate-stripes
+    sub-stripes
+    sub-stripes-2
+    stripes-requires
+    returns
     slice-aggregate-go-on
     sub-go-on
     sub-go-on-2
     go-on-requires
-    returns
-    begin-requires
     returns-2
+    begin-requires
+    returns-3
     border-requires
     slice-aggregate-go-on-2
     add-go-on
@@ -97,4 +117,4 @@ stripes-spec =
     add-go-on-3
     sub-go-on-4
     go-on-requires-2
-    returns-3)
+    returns-4)

@@ -1,5 +1,5 @@
 -- The step's promise on the part's bytes is the definition.
-use Rattle.merge.specs.Merge.{scanAt}
+use Rattle.merge.proofs.Pieces.{scan-law}
 use borrow.Author.Needs.{needs}
 use Rattle.merge.proofs.kept.scan.Statement.{statement}
 use Rattle.merge.proofs.kept.scan.Tie as tie
@@ -11,8 +11,7 @@ step-requires : tie.Need-step-requires
 step-requires c κs = search needs
 
 returns : tie.Need-returns
-unfolding scanAt
-returns c = cc
+returns c = search (needs, scan-law)
 
 pub scan-spec : {M : Type 1} → statement M
 scan-spec = tie.close (tie.spec part-requires step-requires returns)

@@ -1,4 +1,5 @@
 -- What is left past the part that is alike.
+use Rattle.merge.proofs.Pieces.{left-law}
 use borrow.Author.Needs.{needs}
 use Rattle.merge.proofs.order.compare.Statement.{statement}
 use Rattle.merge.proofs.order.compare.Tie as tie
@@ -16,7 +17,7 @@ compare-bytes-requires : tie.Need-compare-bytes-requires
 compare-bytes-requires c κs = search needs
 
 returns : tie.Need-returns
-returns c = cc
+returns c = search (needs, left-law)
 
 pub compare-spec : {M : Type 1} → statement M
 compare-spec =

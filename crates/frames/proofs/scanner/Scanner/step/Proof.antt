@@ -1,5 +1,5 @@
 -- An unchecked step, and then the test of its sum.
-use Rattle.frames.specs.Scan.{stepOf}
+use Rattle.frames.proofs.Sums.{step-law}
 use borrow.Author.Needs.{needs}
 use Rattle.frames.proofs.scanner.Scanner.step.Statement.{statement}
 use Rattle.frames.proofs.scanner.Scanner.step.Tie as tie
@@ -11,8 +11,7 @@ checked-requires : tie.Need-checked-requires
 checked-requires c κs = search needs
 
 returns : tie.Need-returns
-unfolding stepOf
-returns c = cc
+returns c = search (needs, step-law)
 
 pub step-spec : {M : Type 1} → statement M
 step-spec = tie.close (tie.spec step-unchecked-requires checked-requires returns)

@@ -1,5 +1,5 @@
 -- The record is the definition, field by field; no sum wraps, by what an append that is taken knows.
-use Rattle.frames.specs.Write.{grown}
+use Rattle.frames.proofs.Fields.{grown-law}
 use borrow.Author.Needs.{needs}
 use Rattle.frames.proofs.writer.Writer.grow.Statement.{statement}
 use Rattle.frames.proofs.writer.Writer.grow.Tie as tie
@@ -29,8 +29,7 @@ add-t14 : tie.Need-add-t14
 add-t14 c = search needs
 
 returns : tie.Need-returns
-unfolding grown
-returns c = cc
+returns c = search (needs, grown-law)
 
 pub grow-spec : {M : Type 1} → statement M
 grow-spec =
