@@ -1,9 +1,10 @@
--- The second to the eighth stripe, with the secret's words as numbers; and the last 64 bytes.
+-- The first eight stripes, with the secret's words as numbers; and the last 64 bytes.
 use mathlib.Core.Path.{_≡_, refl, sym, ap, _∙_}
 use mathlib.Core.List.{List, [], _∷_}
 use Prim.Native.Nat.{ℕ, _+_, _-_, _*_, _%_, _<_}
 use native.Mathlib.Omega.{arith}
-use lib.ListN.{getD}
+use lib.ListN.{length, getD, take}
+use lib.Seq.{take-length}
 use borrow.Author.Tests.{ne-eqb}
 use Rattle.numbers.specs.Le.{num}
 use Rattle.numbers.specs.Pick.{pick}
@@ -12,7 +13,7 @@ use Rattle.hash.specs.Secret.{secret, secretLength}
 use Rattle.hash.specs.Large.{accumulate}
 use Rattle.hash.specs.ShapeLong.{withWords, blockEnd, stepAt, stripesOf}
 use Rattle.hash.proofs.Loops.{forUp-next}
-use Rattle.hash.proofs.Stripes.{lanes-same}
+use Rattle.hash.proofs.Stripes.{lanes-same, stripes-plus}
 use Rattle.hash.proofs.Tables.{eight, at-eight, tail, words-tail}
 
 -- words that are the secret's from o on
@@ -24,6 +25,9 @@ pub last-law : (s : List ℕ) (i : ℕ) (x r : List ℕ) → r ≡ withWords s i
 last-law s i x r e = e ∙ with-secret s i (secretLength - 71) tail x words-tail
 
 -- the words that each stripe takes
+abbrev first : List ℕ
+first = 0xbe4ba423396cfeb8 ∷ 0x1cad21f72c81017c ∷ 0xdb979083e96dd4de ∷ 0x1f67b3b7a4a44072 ∷ 0x78e5c0cc4ee679cb ∷ 0x2172ffcc7dd05a82 ∷ 0x8e2443f7744608b8 ∷ 0x4c263a81e69035e0 ∷ []
+
 abbrev second : List ℕ
 second = 0x1cad21f72c81017c ∷ 0xdb979083e96dd4de ∷ 0x1f67b3b7a4a44072 ∷ 0x78e5c0cc4ee679cb ∷ 0x2172ffcc7dd05a82 ∷ 0x8e2443f7744608b8 ∷ 0x4c263a81e69035e0 ∷ 0xcb00c391bb52283c ∷ []
 
@@ -44,6 +48,20 @@ seventh = 0x8e2443f7744608b8 ∷ 0x4c263a81e69035e0 ∷ 0xcb00c391bb52283c ∷ 0
 
 abbrev eighth : List ℕ
 eighth = 0x4c263a81e69035e0 ∷ 0xcb00c391bb52283c ∷ 0xa32e531b8b65d088 ∷ 0x4ef90da297486471 ∷ 0xd8acdea946ef1938 ∷ 0x3f349ce33f76faa8 ∷ 0x1d4f0bc7c7bbdcf9 ∷ 0x3159b4cd4be0518a ∷ []
+
+words-first : (k : ℕ) → k < 8 → getD first k 0 ≡ u64s secret 0 k
+unfolding u64s num secret
+words-first k h = at-eight (u64s secret 0) k h
+
+first-stripe : (s x a : List ℕ) → a ≡ withWords s 0 first x → a ≡ stripesOf s 0 0 1 x
+unfolding forUp stepAt blockEnd pick
+first-stripe s x a e = e ∙ with-secret s 0 0 first x words-first
+
+-- the first, and n - 1 after it
+pub from-first : (s : List ℕ) (n : ℕ) (x a r : List ℕ) → 0 < n → a ≡ withWords s 0 first x → r ≡ stripesOf (take (length s) s) 64 1 (n - 1) a → r ≡ stripesOf s 0 0 n x
+from-first s n x a r h ea e =
+    let m : 1 + (n - 1) ≡ n = omega arith in
+    rw (take-length s, first-stripe s x a ea) at e ∙ sym (stripes-plus s 0 0 1 (n - 1) x) ∙ ap (λ (j : ℕ). stripesOf s 0 0 j x) m
 
 module _ (s : List ℕ) (i : ℕ) (x : List ℕ) where
   next : (k j : ℕ) (w a r : List ℕ) → k < 7 → j ≡ i + 64 * k → w ≡ eight (u64s secret (8 * (1 + k))) → a ≡ stripesOf s i 1 k x → r ≡ withWords s j w a → r ≡ stripesOf s i 1 (k + 1) x

@@ -4,7 +4,8 @@ use mathlib.Core.List.{List}
 use Prim.Native.Nat.{ℕ, _+_, _*_, _%_, _<_}
 use native.Mathlib.Nat.{add-assoc}
 use native.Mathlib.Omega.{arith}
-use lib.ListN.{take, drop}
+use lib.ListN.{length, take, drop}
+use lib.Seq.{take-length}
 use Rattle.numbers.specs.Le.{num}
 use Rattle.hash.specs.Notation.{u64s, forUp}
 use Rattle.hash.specs.Secret.{secret}
@@ -51,3 +52,7 @@ stripes-plus a i t p q x =
     let e : t + (p + k) ≡ t + p + k = omega arith in
     let f : i + 64 * (p + k) ≡ i + 64 * p + 64 * k = omega arith in
     ap₂ (λ (m o : ℕ). blockEnd m (accumulate (u64s a o) (8 * (m % 16)) y)) e f)
+
+-- of a slice up to its length
+pub whole-stripes : (s : List ℕ) (n : ℕ) (x r : List ℕ) → r ≡ stripesOf (take (length s) s) 0 0 n x → r ≡ stripesOf s 0 0 n x
+whole-stripes s n x r e = rw (take-length s) at e

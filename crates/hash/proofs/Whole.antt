@@ -3,8 +3,7 @@ use mathlib.Core.Path.{_≡_, refl, sym, ap, ap₂, _∙_}
 use mathlib.Core.List.{List}
 use Prim.Native.Nat.{ℕ, zero, suc, _+_, _-_, _*_, _/_, _%_, _<_, _≤_}
 use native.Mathlib.Omega.{arith}
-use lib.ListN.{length, take}
-use lib.Seq.{take-length}
+use lib.ListN.{length}
 use borrow.Author.Tests.{eq-eqb, ne-eqb}
 use Rattle.numbers.specs.Pick.{pick}
 use Rattle.hash.specs.Notation.{mul64, not64, u64s, forUp, PRIME64-1, PRIME64-2}
@@ -85,5 +84,5 @@ module _ (s : List ℕ) where
       let e : b ≡ accumulated s = rw (eb, ea, en) all-stripes in
       rw (el, eh, e, en)
 
-  pub large-law : (a b : List ℕ) (l h : ℕ) → a ≡ stripesOf (take (length s) s) 0 0 ((length s - 1) / 64) accLarge → b ≡ accumulate (u64s s (length s - 64)) (secretLength - 71) a → l ≡ finalMerge b (mul64 (length s) PRIME64-1) 11 → h ≡ finalMerge b (not64 (mul64 (length s) PRIME64-2)) (secretLength - 75) → _≡_ {A = Hash128} (record { low = l; high = h }) (XXH3-128-large s)
-  large-law a b l h ea eb el eh = merged-law (length s) a b l h refl (rw (take-length s) at ea) eb el eh
+  pub large-law : (a b : List ℕ) (l h : ℕ) → a ≡ stripesOf s 0 0 ((length s - 1) / 64) accLarge → b ≡ accumulate (u64s s (length s - 64)) (secretLength - 71) a → l ≡ finalMerge b (mul64 (length s) PRIME64-1) 11 → h ≡ finalMerge b (not64 (mul64 (length s) PRIME64-2)) (secretLength - 75) → _≡_ {A = Hash128} (record { low = l; high = h }) (XXH3-128-large s)
+  large-law a b l h = merged-law (length s) a b l h refl

@@ -8,6 +8,7 @@ ghost use Rattle.hash.specs.Large.{accLarge, accumulate, round-scramble,
 ghost use Rattle.hash.specs.ShapeLong.{placeOf, laneOf, lanesOf, withWords, blockEnd, stripesOf, pairOf};
 ghost use Rattle.hash.specs.XXH3.{xxh3-128};
 use super::Hash128;
+use super::early;
 use super::medium::Two;
 use super::words::avalanche;
 use super::words::fold;
@@ -370,6 +371,28 @@ const TWICE: [u8; 352] = [
     0x28,
 ];
 
+const START: [u64; 8] = [
+    0xc2b2_ae3d,
+    0x9e37_79b1_85eb_ca87,
+    0xc2b2_ae3d_27d4_eb4f,
+    0x1656_67b1_9e37_79f9,
+    0x85eb_ca77_c2b2_ae63,
+    0x85eb_ca77,
+    0x27d4_eb2f_1656_67c5,
+    0x9e37_79b1,
+];
+
+const FIRST: [u64; 8] = [
+    0xbe4b_a423_396c_feb8,
+    0x1cad_21f7_2c81_017c,
+    0xdb97_9083_e96d_d4de,
+    0x1f67_b3b7_a4a4_4072,
+    0x78e5_c0cc_4ee6_79cb,
+    0x2172_ffcc_7dd0_5a82,
+    0x8e24_43f7_7446_08b8,
+    0x4c26_3a81_e690_35e0,
+];
+
 const LAST: [u64; 8] = [
     0xc3eb_d334_83ac_c5ea,
     0xeb63_13fa_ffa0_81c5,
@@ -468,16 +491,7 @@ pub(crate) fn begin(s: &[u8], n: usize) -> [u64; 8]
     ensures { λ r. ⌜ r ≡ stripesOf (now (s .entry)) 0 0 n accLarge ⌝ }
 {
     let w = TWICE;
-    let mut r = [
-        0xc2b2_ae3d,
-        0x9e37_79b1_85eb_ca87,
-        0xc2b2_ae3d_27d4_eb4f,
-        0x1656_67b1_9e37_79f9,
-        0x85eb_ca77_c2b2_ae63,
-        0x85eb_ca77,
-        0x27d4_eb2f_1656_67c5,
-        0x9e37_79b1,
-    ];
+    let mut r = START;
     let mut t: usize = 0;
     while t < n {
         let q = block_end(accumulate(r, s, 64 * t, &w, place(t)), t);
@@ -563,12 +577,24 @@ pub(crate) fn high(a: [u64; 8], n: u64) -> u64
     avalanche(pair(r, a[6], a[7], 0x7ad1_b8f8_8ffc_a147, 0x958f_3acb_45ce_31d0))
 }
 
+// The first n stripes of s, three or more; up to eight have their words of the secret as numbers.
+fn stripes(s: &[u8], n: usize) -> [u64; 8]
+    requires { ⌜ (64 * n ≤ length (now s)) × (3 ≤ n) ⌝ }
+    ensures { λ r. ⌜ r ≡ stripesOf (now (s .entry)) 0 0 n accLarge ⌝ }
+{
+    let m = s.len();
+    if n <= 8 {
+        return early::stripes(stripe(START, s, 0, FIRST), &s[..m], 64, n - 1);
+    }
+    begin(&s[..m], n)
+}
+
 fn from_241(s: &[u8]) -> Hash128
     requires { ⌜ 240 < length (now s) ⌝ }
     ensures { λ r. ⌜ r ≡ XXH3-128-large (now (s .entry)) ⌝ }
 {
     let n = s.len();
-    let a = last(begin(&s[..n], (n - 1) / 64), s, n - 64);
+    let a = last(stripes(s, (n - 1) / 64), s, n - 64);
     Hash128 {
         low: low(a, n as u64),
         high: high(a, n as u64),

@@ -1,21 +1,14 @@
--- All stripes, the last 64 bytes and the two halves are the description's (large-law); a slice up to its length is the slice.
-use mathlib.Core.Path.{sym, ap}
-use native.Mathlib.Omega.{arith}
-use lib.ListN.{length}
-use lib.Seq.{take-length}
+-- All stripes, the last 64 bytes and the two halves are the description's (large-law).
 use Rattle.hash.proofs.Whole.{large-law}
 use borrow.Author.Needs.{needs}
 use Rattle.hash.proofs.long.from_241.Statement.{statement}
 use Rattle.hash.proofs.long.from_241.Tie as tie
 
-slice-aggregate-begin : tie.Need-slice-aggregate-begin
-slice-aggregate-begin c = sym (ap length (take-length (c .before .before .args .s .now)))
+sub-stripes : tie.Need-sub-stripes
+sub-stripes c = search needs
 
-sub-begin : tie.Need-sub-begin
-sub-begin c = search needs
-
-begin-requires : tie.Need-begin-requires
-begin-requires c κs = omega (arith, ap length (take-length (c .before .before .args .s .now)))
+stripes-requires : tie.Need-stripes-requires
+stripes-requires c κs = search needs
 
 sub-last : tie.Need-sub-last
 sub-last c = search needs
@@ -36,9 +29,8 @@ pub from-241-spec : {M : Type 1} → statement M
 from-241-spec =
     tie.close
     (tie.spec
-    slice-aggregate-begin
-    sub-begin
-    begin-requires
+    sub-stripes
+    stripes-requires
     sub-last
     last-requires
     low-requires
