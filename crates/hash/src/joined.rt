@@ -56,6 +56,7 @@ pub(crate) fn upto_32(key: &[u8], value: &[u8]) -> Hash128
     from_0_to_32(&key[..m], &value[..n])
 }
 
+// An empty key leaves one slice, here and in from_241.
 fn from_65_to_240(key: &[u8], value: &[u8], t: u64, h: u64) -> Hash128
     requires { ⌜ (64 < length (now key) + length (now value)) × (length (now key) + length (now value) ≤ 240) × (t ≡ endOf (now key)) × (h ≡ num 8 (now value)) ⌝ }
     ensures { λ r. ⌜ r ≡ xxh3-128 (now (key .entry) ++ now (value .entry)) ⌝ }
