@@ -5,7 +5,7 @@ use mathlib.Core.Bool.{cond}
 use lib.Dec.{eqb}
 use lib.ListN.{getD}
 use Rattle.numbers.specs.declared.handle.ValueHandle.{ValueHandle}
-use Rattle.frames.specs.Numbers.{appendNumber, scanNumber}
+use Rattle.frames.specs.Refusals.{appendNumber, scanNumber}
 use Rattle.frames.specs.declared.place.Place.{Place}
 use Rattle.frames.specs.declared.writer.Writer.{Writer}
 use Rattle.frames.specs.declared.writer.Appended.{Appended}

@@ -1,6 +1,6 @@
 pub mod Layout
 pub mod LayoutLaws
-pub mod Numbers
+pub mod Refusals
 pub mod Scan
 pub mod ScanLaws
 pub mod StepLaws

@@ -9,7 +9,7 @@ use Rattle.hash.specs.declared.Hash128.{Hash128}
 use Rattle.hash.specs.XXH3.{xxh3-128}
 use Rattle.numbers.specs.Pick.{pick}
 use Rattle.frames.specs.Layout.{blob, meta, headerOf, starts, sameSum}
-use Rattle.frames.specs.Numbers.{frameSays, refuseFrame, refuseScan}
+use Rattle.frames.specs.Refusals.{frameSays, refuseFrame, refuseScan}
 use Rattle.frames.specs.declared.place.Place.{Place}
 use Rattle.frames.specs.declared.header.Header.{Header}
 use Rattle.frames.specs.declared.scanner.Scanner.{Scanner}

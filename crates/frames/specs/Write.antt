@@ -9,7 +9,7 @@ use lib.Seq.{sets}
 use Rattle.numbers.specs.Pick.{pick}
 use Rattle.numbers.specs.declared.handle.BlobIndirection.{BlobIndirection}
 use Rattle.frames.specs.Layout.{meta, frameBytes}
-use Rattle.frames.specs.Numbers.{refuseAppend, refuseFinish, refuseNext}
+use Rattle.frames.specs.Refusals.{refuseAppend, refuseFinish, refuseNext}
 use Rattle.frames.specs.declared.place.Place.{Place}
 use Rattle.frames.specs.declared.writer.Writer.{Writer}
 use Rattle.frames.specs.declared.writer.Report.{Report}

@@ -18,7 +18,7 @@ ghost use Prim.Native.Nat.{_+_, _<_, _≤_, _^_};
 ghost use mathlib.Core.List.{_++_};
 ghost use lib.ListN.{length};
 ghost use Rattle.hash.specs.XXH3.{xxh3-128};
-ghost use Rattle.frames.specs.Numbers.{scanNumber};
+ghost use Rattle.frames.specs.Refusals.{scanNumber};
 ghost use Rattle.frames.specs.Scan.{going, cutAt, partAt, sumAt, frameOf, frameAt, checkedOf, stepOf};
 
 pub struct Scanner {

@@ -18,7 +18,7 @@ ghost use lib.ListN.{length, take, drop};
 ghost use lib.Seq.{sets};
 ghost use Rattle.hash.specs.XXH3.{xxh3-128};
 ghost use Rattle.frames.specs.Layout.{frameBytes};
-ghost use Rattle.frames.specs.Numbers.{appendNumber, finishNumber, nextNumber};
+ghost use Rattle.frames.specs.Refusals.{appendNumber, finishNumber, nextNumber};
 ghost use Rattle.frames.specs.Write.{newWriter, targeted, judged, overOf, firstOf, grown, reportOf, endBytes, acceptedAs, appendAnswer, appendBytes, finishAnswer, finishBytes, nextOf};
 ghost use Rattle.frames.specs.WriteLaws.{Fits};
 

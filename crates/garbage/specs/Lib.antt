@@ -9,7 +9,7 @@ pub mod Stored
 pub mod Ratio
 pub mod Verdicts
 pub mod Columns
-pub mod Numbers
+pub mod Refusals
 pub mod Tallies
 pub mod Arrangements
 pub mod Files

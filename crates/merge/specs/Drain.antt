@@ -5,7 +5,7 @@ use mathlib.Core.List.{List, [], _∷_}
 use lib.Dec.{ltb, eqb}
 use Rattle.numbers.specs.Pick.{pick}
 use Rattle.numbers.specs.declared.handle.ValueHandle.{ValueHandle}
-use Rattle.frames.specs.Numbers.{scanSays}
+use Rattle.frames.specs.Refusals.{scanSays}
 use Rattle.frames.specs.Scan.{partAt}
 use Rattle.merge.specs.declared.parts.Part.{Part}
 use Rattle.merge.specs.declared.parts.MergeScanner.{MergeScanner}
@@ -23,7 +23,7 @@ use Rattle.merge.specs.declared.drain.DrainRefusal.the-variants as refus
 use Rattle.merge.specs.declared.drain.Drained.{Drained}
 use Rattle.merge.specs.Order.{orderOf}
 use Rattle.merge.specs.Merge.{nextOf}
-use Rattle.merge.specs.Numbers.{ofPart, refuseDrain}
+use Rattle.merge.specs.Refusals.{ofPart, refuseDrain}
 
 -- "the sought key, the sought file and an offset at or above the handle's": found or past; any other entry is skipped, but for one whose key is above
 unfoldable pub judged : Order → MergeEntry → ValueHandle → Verdict

@@ -3,7 +3,7 @@ pub mod Parts
 pub mod Merge
 pub mod Rows
 pub mod Drain
-pub mod Numbers
+pub mod Refusals
 pub mod Marked
 pub mod Theorems
 pub mod Pass

@@ -6,7 +6,7 @@ use mathlib.Core.Bool.{Bool, true, false}
 use lib.Dec.{ltb, eqb}
 use lib.ListN.{length, take, drop}
 use Rattle.numbers.specs.Pick.{pick}
-use Rattle.frames.specs.Numbers.{scanSays}
+use Rattle.frames.specs.Refusals.{scanSays}
 use Rattle.frames.specs.Scan.{going, partAt, stepOf}
 use Rattle.frames.specs.declared.place.Place.{Place}
 use Rattle.frames.specs.declared.scanner.ScanEntry.{ScanEntry}
@@ -23,7 +23,7 @@ use Rattle.merge.specs.declared.next.MergeRefusal.the-variants as refusa
 use Rattle.merge.specs.declared.next.Merged.{Merged}
 use Rattle.merge.specs.Order.{orderOf}
 use Rattle.merge.specs.Parts.{tableOk, takenOf}
-use Rattle.merge.specs.Numbers.{ofPart, refuseMerge}
+use Rattle.merge.specs.Refusals.{ofPart, refuseMerge}
 
 -- what the scan of a part answers at its position
 unfoldable pub scanAt : List ℕ → Part → Scanned

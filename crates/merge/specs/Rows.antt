@@ -7,7 +7,7 @@ use lib.Dec.{ltb}
 use lib.ListN.{length}
 use lib.Seq.{sets}
 use Rattle.numbers.specs.Pick.{pick}
-use Rattle.frames.specs.Numbers.{scanSays}
+use Rattle.frames.specs.Refusals.{scanSays}
 use Rattle.merge.specs.declared.parts.MergeScanner.{MergeScanner}
 use Rattle.merge.specs.declared.heads.MergeEntry.{MergeEntry}
 use Rattle.merge.specs.declared.next.MergeAnswer.{MergeAnswer}
@@ -18,7 +18,7 @@ use Rattle.merge.specs.declared.rows.RowsAnswer.the-variants as rows
 use Rattle.merge.specs.declared.rows.RowsRefusal.the-variants as rows-refusal
 use Rattle.merge.specs.declared.rows.Rowed.{Rowed}
 use Rattle.merge.specs.Merge.{nextOf}
-use Rattle.merge.specs.Numbers.{ofPart, refuseRows}
+use Rattle.merge.specs.Refusals.{ofPart, refuseRows}
 
 -- a row: part, file id, offset, the key's place and length, seqno, stated length, the value's place and length
 abbrev pub rowOf : MergeEntry → List ℕ

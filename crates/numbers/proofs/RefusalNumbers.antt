@@ -6,7 +6,7 @@ use mathlib.Core.Bool.{Bool, true, false}
 use lib.Dec.{ltb}
 use lib.ListN.{length, take, drop}
 use Rattle.numbers.specs.Pick.{pick}
-use Rattle.numbers.specs.Numbers.{numberOfWrote, numberOfRefusal, numberOfReadU64, numberOfReadU32, numberOfReadHandle, numberOfReadIndirection}
+use Rattle.numbers.specs.Refusals.{numberOfWrote, numberOfRefusal, numberOfReadU64, numberOfReadU32, numberOfReadHandle, numberOfReadIndirection}
 use Rattle.numbers.specs.Wrote.{fits, wroteOf}
 use Rattle.numbers.specs.Leb128.{valueOf, carried, Reading, number, refused, readIn, groups, asU64, asU32}
 use Rattle.numbers.specs.Theorems.{WroteNumbers, ReadNumbers, DecodeNumbers}

@@ -13,6 +13,6 @@ pub mod HandleLaws
 pub mod RoundTripLaws
 pub mod Wide
 pub mod WideLaws
-pub mod Numbers
+pub mod Refusals
 pub mod Marked
 pub mod Theorems

@@ -6,7 +6,7 @@ use mathlib.Core.Logic.{_⊎_}
 use lib.Dec.{ltb}
 use lib.ListN.{length, getD, take, drop}
 use Rattle.numbers.specs.Pick.{pick}
-use Rattle.numbers.specs.Numbers.{numberOfWrote, numberOfRefusal, numberOfReadU64, numberOfReadU32, numberOfReadHandle, numberOfReadIndirection}
+use Rattle.numbers.specs.Refusals.{numberOfWrote, numberOfRefusal, numberOfReadU64, numberOfReadU32, numberOfReadHandle, numberOfReadIndirection}
 use Rattle.numbers.specs.Wrote.{fits, wroteOf, placed}
 use Rattle.numbers.specs.Leb128.{shortest, inGroups, valueOf, carried, number, groups, readOf, asU64, asU32}
 use Rattle.numbers.specs.Handle.{handleBytes, indirectionBytes, handleOf, indirectionOf}

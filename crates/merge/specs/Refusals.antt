@@ -2,7 +2,7 @@
 use Prim.Native.Nat.{ℕ}
 use mathlib.Core.Path.{_≡_}
 use mathlib.Core.List.{List, [], _∷_}
-use Rattle.frames.specs.Numbers.{scanSays}
+use Rattle.frames.specs.Refusals.{scanSays}
 use Rattle.merge.specs.declared.drain.DrainOutcome.{DrainOutcome}
 use Rattle.merge.specs.declared.drain.DrainOutcome.the-variants as outcome
 use Rattle.merge.specs.declared.drain.DrainRefusal.{DrainRefusal}
