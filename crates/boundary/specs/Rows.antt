@@ -1,9 +1,9 @@
 -- Answers as numbers and rows of numbers.
-use Prim.Native.Nat.{ℕ}
+use Prim.Native.Nat.{ℕ, _-_, _%_, _^_}
 use mathlib.Core.List.{List, [], _∷_}
 use mathlib.Core.Bool.{cond}
 use lib.Dec.{eqb}
-use lib.ListN.{getD}
+use lib.ListN.{getD, set}
 use Rattle.numbers.specs.declared.handle.ValueHandle.{ValueHandle}
 use Rattle.frames.specs.Refusals.{appendNumber, scanNumber}
 use Rattle.frames.specs.declared.place.Place.{Place}
@@ -12,6 +12,10 @@ use Rattle.frames.specs.declared.writer.Appended.{Appended}
 use Rattle.frames.specs.declared.writer.Appended.the-variants as appended
 use Rattle.frames.specs.declared.scanner.Scanned.{Scanned}
 use Rattle.frames.specs.declared.scanner.Scanned.the-variants as scanned
+
+-- document 01's number where a count is answered: below zero, in two's complement
+abbrev pub belowZero : ℕ → ℕ
+belowZero number = (2 ^ 64 - number) % 2 ^ 64
 
 -- a handle; a read does not look at the file's id
 abbrev pub handleOf : ℕ → ℕ → ValueHandle
@@ -57,12 +61,12 @@ appendedNumber (appended.Put pointer w) = 0
 appendedNumber (appended.Last pointer w report) = 100
 appendedNumber (appended.Refused why w) = appendNumber why
 
--- an entry's numbers, and where the next step begins; else the row as it was
+-- an entry's numbers, and last where the next step begins; of the end and a refusal that number alone
 abbrev pub stepRow : List ℕ → Scanned → List ℕ
 stepRow row (scanned.Entry e next) =
     e .offset ∷ e .key .at ∷ e .key .len ∷ e .seqno ∷ e .stated ∷ e .value .at ∷ e .value .len ∷ next .at ∷ []
-stepRow row (scanned.End at next) = row
-stepRow row (scanned.Refused why next) = row
+stepRow row (scanned.End at next) = set row 7 (next .at)
+stepRow row (scanned.Refused why next) = set row 7 (next .at)
 
 -- 0 for an entry, 100 for the end, else document 01's number
 abbrev pub stepNumber : Scanned → ℕ

@@ -3,10 +3,12 @@ use Prim.Native.Nat.{ℕ}
 use mathlib.Core.List.{List, [], _∷_}
 use lib.ListN.{getD}
 use Rattle.merge.specs.Parts.{noPart}
+use Rattle.merge.specs.Refusals.{rowsNumber}
 use Rattle.merge.specs.declared.parts.Part.{Part}
 use Rattle.merge.specs.declared.parts.MergeScanner.{MergeScanner}
 use Rattle.merge.specs.declared.rows.RowsAnswer.{RowsAnswer}
 use Rattle.merge.specs.declared.rows.RowsAnswer.the-variants as rows
+use Rattle.boundary.specs.Rows.{belowZero}
 
 -- part i of the columns: starts, lengths, file ids, positions
 abbrev pub partAt : List ℕ → List ℕ → List ℕ → List ℕ → ℕ → Part
@@ -26,8 +28,8 @@ abbrev pub atsOf : List Part → List ℕ
 atsOf ps =
     getD ps 0 noPart .at ∷ getD ps 1 noPart .at ∷ getD ps 2 noPart .at ∷ getD ps 3 noPart .at ∷ getD ps 4 noPart .at ∷ getD ps 5 noPart .at ∷ getD ps 6 noPart .at ∷ getD ps 7 noPart .at ∷ getD ps 8 noPart .at ∷ getD ps 9 noPart .at ∷ getD ps 10 noPart .at ∷ getD ps 11 noPart .at ∷ getD ps 12 noPart .at ∷ getD ps 13 noPart .at ∷ getD ps 14 noPart .at ∷ getD ps 15 noPart .at ∷ []
 
--- how many rows; none at the end, and the largest number where refused
-abbrev pub rowsNumber : RowsAnswer → ℕ
-rowsNumber (rows.Rows n) = n
-rowsNumber rows.End = 0
-rowsNumber (rows.Refused why) = 0xffff_ffff_ffff_ffff
+-- how many rows, none at the end; refused, document 01's number below zero
+abbrev pub rowedNumber : RowsAnswer → ℕ
+rowedNumber (rows.Rows n) = n
+rowedNumber rows.End = 0
+rowedNumber (rows.Refused why) = belowZero (rowsNumber why)

@@ -99,7 +99,8 @@ pub extern "C" fn pd_append(
     number_of(a)
 }
 
-// The row of an answer: offset, the key's place, seqno, stated length, the value's place, where the next step begins.
+// The row of an answer: offset, the key's place, seqno, stated length, the value's place, where the next step begins. The last is told of
+// every answer, so that a scan goes on after 8 and 9.
 fn step_row(row: [u64; 8], a: Scanned) -> [u64; 8]
     ensures { λ r. ⌜ r ≡ stepRow row a ⌝ }
 {
@@ -118,8 +119,16 @@ fn step_row(row: [u64; 8], a: Scanned) -> [u64; 8]
                 next.at as u64,
             ]
         }
-        Scanned::End { at: _, next: _ } => row,
-        Scanned::Refused(_, _) => row,
+        Scanned::End { at: _, next } => {
+            let mut told = row;
+            told[7] = next.at as u64;
+            told
+        }
+        Scanned::Refused(_, next) => {
+            let mut told = row;
+            told[7] = next.at as u64;
+            told
+        }
     }
 }
 

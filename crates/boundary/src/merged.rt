@@ -1,11 +1,12 @@
 // The merge in one pass.
+use super::refused::below_zero;
 use merge::parts::MergeScanner;
 use merge::parts::Part;
 use merge::rows::RowsAnswer;
 ghost use mathlib.Core.Path.{_≡_};
 ghost use Prim.Native.Nat.{_<_};
 ghost use Rattle.merge.specs.Rows.{rowedOf, rowedIn};
-ghost use Rattle.boundary.specs.Tables.{partAt, partsOf, tableOf, atsOf, rowsNumber};
+ghost use Rattle.boundary.specs.Tables.{partAt, partsOf, tableOf, atsOf, rowedNumber};
 
 fn part_at(
     starts: [u64; 16],
@@ -72,14 +73,14 @@ fn ats_of(ps: [Part; 16]) -> [u64; 16]
     ]
 }
 
-// How many rows; none at the end, and the largest number where refused.
+// How many rows, none at the end; refused, document 01's number below zero.
 fn number_of(a: RowsAnswer) -> u64
-    ensures { λ r. ⌜ r ≡ rowsNumber a ⌝ }
+    ensures { λ r. ⌜ r ≡ rowedNumber a ⌝ }
 {
     match a {
         RowsAnswer::Rows(n) => n as u64,
         RowsAnswer::End => 0,
-        RowsAnswer::Refused(_) => 0xffff_ffff_ffff_ffff,
+        RowsAnswer::Refused(why) => below_zero(why.number()),
     }
 }
 
@@ -94,9 +95,15 @@ pub extern "C" fn pd_rows(
     image: &[u8],
     rows: &mut [u64],
 ) -> u64
-    ensures { λ r. ⌜ (r ≡ rowsNumber (rowedOf (tableOf count (now (starts .entry)) (now (lengths .entry)) (now (files .entry)) (now (ats .entry))) (now (image .entry)) (now (rows .entry)) .answer))
-        × (now (ats .exit) ≡ atsOf (rowedOf (tableOf count (now (starts .entry)) (now (lengths .entry)) (now (files .entry)) (now (ats .entry))) (now (image .entry)) (now (rows .entry)) .state .parts))
-        × (now (rows .exit) ≡ rowedIn (tableOf count (now (starts .entry)) (now (lengths .entry)) (now (files .entry)) (now (ats .entry))) (now (image .entry)) (now (rows .entry))) ⌝ }
+    ensures { λ r. ⌜ (r ≡ rowedNumber (rowedOf
+        (tableOf count (now (starts .entry)) (now (lengths .entry)) (now (files .entry)) (now (ats .entry)))
+        (now (image .entry)) (now (rows .entry)) .answer))
+        × (now (ats .exit) ≡ atsOf (rowedOf
+        (tableOf count (now (starts .entry)) (now (lengths .entry)) (now (files .entry)) (now (ats .entry)))
+        (now (image .entry)) (now (rows .entry)) .state .parts))
+        × (now (rows .exit) ≡ rowedIn
+        (tableOf count (now (starts .entry)) (now (lengths .entry)) (now (files .entry)) (now (ats .entry)))
+        (now (image .entry)) (now (rows .entry))) ⌝ }
 {
     let parts = parts_of(*starts, *lengths, *files, *ats);
     let m = MergeScanner { count, parts };

@@ -20,11 +20,11 @@ use types.Kit.{Given, Item, ‵, raw, _⊛_, some, later, prop, allocs, params�
 use types.Run.{Reads, Opds, enter}
 use denote.RattleType.{RattleType, flat, owns}
 use denote.Laws.{Is, Ises, Are, Spells, valss, Tellss, shows}
-use denote.Signature.{Signature, typeAt, typesAt}
+use denote.Signature.{typeAt, typesAt}
 use denote.Steps.{said, peeks, heard}
 use denote.Triple.Statement.{Contract, Triple}
 use denote.Triple.Bound.{passed}
-use denote.Triple.Entry.{Args, Res, Vals, alive, onEntry}
+use denote.Triple.Entry.{Args, Vals, alive, onEntry}
 use denote.Triple.Call.{calls-from}
 use denote.Triple.Clauses.{Ended, Clauses, ClausesAt, Lasts, lasts, atExit, ensured, closing}
 use denote.Triple.Spec.{Back, tripleOf}

@@ -1,4 +1,5 @@
--- The theorems of specs/Theorems.antt, proved; what the walks by hand in held/ share; and the laws over plain variables that the other proofs cite.
+-- What belongs to no one function: the theorems with the laws they stand on, what the walks by hand in held/ share, and laws over plain variables.
+mod Theorems
 mod Back
 mod Written
 mod Moved

@@ -10,7 +10,7 @@ use mir.Syntax.{Local, local, Home, Ty, Rv as RValue, Body, copy, place, seq, as
 use mir.Val.{Val, WT, hasTy}
 use base.Logic.{SProp, ent, id⊢, via, sep, monoR}
 use base.Fml.{Fml, Share, ftrue, fsep, fat, froom, fdies}
-use prog.Wp.{Heap, Env, Calls, Loops, Spot, spotOf}
+use prog.Wp.{Heap, Env, Calls, Loops, spotOf}
 use ghost.Atoms.{Atoms}
 use types.Kit.{Given, Item, ‵, mean, ⋆, nth, put, sel⊢, push, pop, Goal, prop, allocs, params′, passes, frees, runs, lands, Post, atRet, Seq, Step, step, _$_, move, drop, fsplit, fjoin}
 use types.Run.{Reads, Opd, Rv, alloc1, alloc0, params1, pass1, pass0, look, load, from, stop, init, assigns, land, forget, returns, free1, free0}

@@ -84,4 +84,4 @@ over-within zero s w h = absurd (omega arith)
 over-within (suc n) s w h = over-by n s w h (isOver (stepOf s w)) refl (over-within n s (after (stepOf s w)))
 
 pub over : Over
-over s = over-within (length s / 4 + 1) s (going 0) (omega arith)
+over s = over-within _ s (going 0) (omega arith)

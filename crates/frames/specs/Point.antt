@@ -1,11 +1,13 @@
 -- What a point read tells, and the part that it hands back: document 01, "The scan and the point read".
-use Prim.Native.Nat.{ℕ, _+_, _-_}
+use Prim.Native.Nat.{ℕ, _+_, _-_, min}
 use mathlib.Core.List.{List, _++_}
 use lib.ListN.{length, take, drop}
 use lib.Dec.{ltb}
+use denote.Ref.{RefT}
 use Rattle.hash.specs.declared.Hash128.{Hash128}
 use Rattle.hash.specs.XXH3.{xxh3-128}
 use Rattle.numbers.specs.Pick.{pick}
+use Rattle.numbers.specs.Part.{behind}
 use Rattle.numbers.specs.declared.cut.CutShort.{CutShort}
 use Rattle.numbers.specs.declared.handle.ValueHandle.{ValueHandle}
 use Rattle.frames.specs.Layout.{blob, headerOf, starts, sameSum}
@@ -57,6 +59,22 @@ toldOf s k h =
     pick (ltb (length s - h .offset) (38 + k + h .size)) (cutTold (h .offset) (38 + k + h .size) (length s - h .offset))
     (withinOf (take (38 + k + h .size) (drop (h .offset) s)) (h .offset) k (h .size))
 
--- the value's part of the file
+-- the value's bytes
 abbrev pub partOf : List ℕ → Told → List ℕ
 partOf s r = take (r .value .len) (drop (r .value .at) s)
+
+-- a part of the caller's bytes: where its first byte lies (the block, and how far in it), and the bytes
+pub record Part : Type 0 where
+  pub place : ℕ × ℕ
+  pub bytes : List ℕ
+
+-- the part that a reference shows; its name, which the logic alone has, is new at each call
+abbrev pub shown : RefT (List ℕ) → Part
+shown r = record { place = r .ptr; bytes = r .now }
+
+-- the value as a part of the file's own bytes: as far behind the file's first byte as the read told, and not past its end; empty where refused
+abbrev pub valueIn : RefT (List ℕ) → Told → Part
+valueIn file r = record {
+  place = behind (file .ptr) (min (r .value .at) (length (file .now)));
+  bytes = partOf (file .now) r;
+}

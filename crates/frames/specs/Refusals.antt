@@ -2,6 +2,7 @@
 use Prim.Native.Nat.{ℕ}
 use mathlib.Core.Path.{_≡_}
 use mathlib.Core.List.{List, [], _∷_}
+use Rattle.numbers.specs.Refusals.{valuesOfCut}
 use Rattle.frames.specs.declared.writer.Writer.{Writer}
 use Rattle.frames.specs.declared.writer.AppendRefusal.{AppendRefusal}
 use Rattle.frames.specs.declared.writer.AppendRefusal.the-variants as append
@@ -44,10 +45,19 @@ abbrev pub nextNumber : NextRefusal → ℕ
 nextNumber next.NotFinished = 15
 nextNumber next.IdsUsedUp = 6
 
--- the number, then the values: 7 with where, needed and present; 8 with where
+-- cut short, invalid header
+abbrev pub frameNumber : FrameRefusal → ℕ
+frameNumber (frame.CutShort cut) = 7
+frameNumber (frame.InvalidHeader at) = 8
+
+-- a cut's values: where, needed and present; of 8, where
+abbrev pub frameValues : FrameRefusal → List ℕ
+frameValues (frame.CutShort cut) = valuesOfCut cut
+frameValues (frame.InvalidHeader at) = at ∷ []
+
+-- the number, then the values
 abbrev pub frameSays : FrameRefusal → List ℕ
-frameSays (frame.CutShort cut) = 7 ∷ cut .at ∷ cut .needed ∷ cut .present ∷ []
-frameSays (frame.InvalidHeader at) = 8 ∷ at ∷ []
+frameSays why = frameNumber why ∷ frameValues why
 
 -- cut short, invalid header, checksum mismatch
 abbrev pub scanNumber : ScanRefusal → ℕ
@@ -57,7 +67,7 @@ scanNumber (scan.Mismatch at stored computed) = 9
 
 -- the same values, and of 9 where, the stored sum and the computed one, each with its low half first
 abbrev pub scanValues : ScanRefusal → List ℕ
-scanValues (scan.CutShort cut) = cut .at ∷ cut .needed ∷ cut .present ∷ []
+scanValues (scan.CutShort cut) = valuesOfCut cut
 scanValues (scan.InvalidHeader at) = at ∷ []
 scanValues (scan.Mismatch at stored computed) = at ∷ stored .low ∷ stored .high ∷ computed .low ∷ computed .high ∷ []
 

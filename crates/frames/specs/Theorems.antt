@@ -1,4 +1,5 @@
 -- What follows from the contracts' definitions together: a run's bytes, scan-back, read-back, progress, and a file that is cut.
+-- The record `Theorems`, at the end, has all of them; its one value is in proofs/Theorems.antt.
 use Prim.Native.Nat.{ℕ, _+_, _/_, _<_, _≤_}
 use mathlib.Core.Path.{_≡_}
 use mathlib.Core.List.{List, [], _∷_, _++_}
@@ -86,3 +87,11 @@ ScansShort s es = (at : ℕ) × (cut : CutShort) × Gives s (going 0) es (going 
 -- cut anywhere before META's last byte, such a file scans to exactly the entries whole before the cut, and then 7
 abbrev pub Cut : Type 0
 Cut = (s : List ℕ) (es : List ScanEntry) (m cut : ℕ) → ScansTo s es m → cut < m + 4 → ScansShort (take cut s) (wholeBefore cut es)
+
+pub record Theorems : Type 0 where
+  pub bytes : Bytes
+  pub scanBack : ScanBack
+  pub readBack : ReadBack
+  pub progress : Progress
+  pub over : Over
+  pub cut : Cut

@@ -2,7 +2,7 @@
 use Prim.Native.Nat.{ℕ, _+_}
 use mathlib.Core.Path.{refl}
 use mathlib.Core.List.{List, [], _++_}
-use mathlib.Core.Bool.{Bool, true, false}
+use mathlib.Core.Bool.{Bool, true, false, not}
 use lib.ListN.{length}
 use lib.Dec.{ltb, leb, eqb}
 use lib.Seq.{sets}
@@ -140,7 +140,6 @@ finishBytes w s = closedBytes (finishAnswer w (length s)) w s
 -- the next file: the id plus one, offset 0, zero counts, settings kept; in the order 15, 6
 unfoldable pub nextOf : Writer → Opened
 nextOf w =
-    pick (w .finished)
+    pick (not (w .finished)) (refuseNext 15 next.NotFinished refl w)
     (pick (leb most (w .id)) (refuseNext 6 next.IdsUsedUp refl w)
     (opened.Next (startOf (w .id + 1) (w .target))))
-    (refuseNext 15 next.NotFinished refl w)

@@ -2,7 +2,7 @@
 use Prim.Native.Nat.{ℕ, _+_, _-_, _<_, _≤_, _^_, min}
 use mathlib.Core.Path.{_≡_, refl, sym, _∙_}
 use mathlib.Core.List.{List}
-use mathlib.Core.Bool.{Bool, true, false}
+use mathlib.Core.Bool.{Bool, true, false, not}
 use native.Mathlib.Omega.{arith}
 use native.Mathlib.Decide.{decLt}
 use borrow.Author.Tests.{lt-ltb, le-ltb, le-leb, lt-leb, eq-eqb, ne-eqb, ltb-false}
@@ -226,11 +226,11 @@ module _ (w : Writer) (s : List ℕ) where
           (rw f (simp (on, ne-eqb _ _ some, le-ltb _ _ l)), e ∙ simp (on, ne-eqb _ _ some, le-ltb _ _ l))
 
 module _ (w : Writer) where
-  pub next-early : w .finished ≡ false → nextOf w ≡ opened.Refused next.NotFinished w
+  pub next-early : not (w .finished) ≡ true → nextOf w ≡ opened.Refused next.NotFinished w
   unfolding nextOf pick
   next-early h = simp h
 
-  module _ (off : w .finished ≡ true) where
+  module _ (off : not (w .finished) ≡ false) where
     pub next-last : most ≤ w .id → nextOf w ≡ opened.Refused next.IdsUsedUp w
     unfolding nextOf pick
     next-last h = simp (off, le-leb _ _ h)

@@ -15,7 +15,7 @@ use numbers::handle::ValueHandle;
 ghost use mathlib.Core.Path.{_≡_};
 ghost use Prim.Native.Nat.{_+_, _<_, _≤_, _^_};
 ghost use lib.ListN.{length};
-ghost use Rattle.frames.specs.Point.{told, cutTold, summed, takenSum, withinOf, toldOf, partOf};
+ghost use Rattle.frames.specs.Point.{told, cutTold, summed, takenSum, withinOf, toldOf, shown, valueIn};
 
 // What a read found: the refusal's number, or 0; where the value lies; both sums, of a frame that was hashed; and, for 7, what was cut short.
 pub struct Told {
@@ -25,6 +25,13 @@ pub struct Told {
     pub computed: Hash128,
     pub cut: CutShort,
 }
+
+// Where nothing was cut short.
+const NO_CUT: CutShort = CutShort {
+    at: 0,
+    needed: 0,
+    present: 0,
+};
 
 fn refusal(number: u64, cut: CutShort) -> Told
     ensures { λ r. ⌜ r ≡ told number cut ⌝ }
@@ -56,11 +63,7 @@ fn cut_short(at: usize, needed: usize, present: usize) -> Told
 fn judged(value: Place, stored: Hash128, computed: Hash128) -> Told
     ensures { λ r. ⌜ r ≡ summed value stored computed ⌝ }
 {
-    let cut = CutShort {
-        at: 0,
-        needed: 0,
-        present: 0,
-    };
+    let cut = NO_CUT;
     if same_sum(stored, computed) {
         return Told {
             number: 0,
@@ -111,17 +114,10 @@ fn within(t: &[u8], at: usize, k: usize, size: usize) -> Told
         };
         return judged(value, stored, computed);
     }
-    refusal(
-        8,
-        CutShort {
-            at: 0,
-            needed: 0,
-            present: 0,
-        },
-    )
+    refusal(8, NO_CUT)
 }
 
-// What reading a handle's value finds.
+// What reading a handle's value finds. The handle's file id is not looked at: which file it names is the caller's to know.
 pub fn look(file: &[u8], key: &[u8], handle: ValueHandle) -> Told
     ensures { λ r. ⌜ r ≡ toldOf (now (file .entry)) (length (now (key .entry))) handle ⌝ }
 {
@@ -139,7 +135,7 @@ pub fn look(file: &[u8], key: &[u8], handle: ValueHandle) -> Told
 
 // The value that a look told of, as a part of the file; empty where it was refused.
 pub fn value<'a>(file: &'a [u8], told: Told) -> &'a [u8]
-    ensures { λ r. ⌜ now r ≡ partOf (now (file .entry)) told ⌝ }
+    ensures { λ r. ⌜ shown r ≡ valueIn (file .entry) told ⌝ }
 {
     let v = told.value;
     part(file, v.at, v.len)
@@ -152,27 +148,10 @@ pub fn read<'a, 'b, 'c>(
     handle: ValueHandle,
     told: &'c mut Told,
 ) -> &'a [u8]
-    ensures { λ r. ⌜ (now r ≡ partOf (now (file .entry)) (toldOf (now (file .entry)) (length (now (key .entry))) handle))
+    ensures { λ r. ⌜ (shown r ≡ valueIn (file .entry) (toldOf (now (file .entry)) (length (now (key .entry))) handle))
         × (now (told .exit) ≡ toldOf (now (file .entry)) (length (now (key .entry))) handle) ⌝ }
 {
     let t = look(file, key, handle);
     *told = t;
     value(file, t)
-}
-
-// The read told into a place that is made here; what that holds before is not looked at.
-fn told_into<'a, 'b>(file: &'a [u8], key: &'b [u8], handle: ValueHandle, place: Told) -> Told
-    ensures { λ r. ⌜ r ≡ toldOf (now (file .entry)) (length (now (key .entry))) handle ⌝ }
-{
-    let mut told = place;
-    read(file, key, handle, &mut told);
-    told
-}
-
-// What the point read tells, for a caller that has no struct to lend: with `value`, the same as `read`.
-pub fn read_told(file: &[u8], key: &[u8], handle: ValueHandle) -> Told
-    ensures { λ r. ⌜ r ≡ toldOf (now (file .entry)) (length (now (key .entry))) handle ⌝ }
-{
-    let place = cut_short(0, 0, 0);
-    told_into(file, key, handle, place)
 }

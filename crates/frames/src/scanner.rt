@@ -14,11 +14,11 @@ use numbers::bytes::room;
 use numbers::bytes::tail;
 use numbers::cut::CutShort;
 ghost use mathlib.Core.Path.{_≡_};
-ghost use Prim.Native.Nat.{_+_, _<_, _≤_, _^_};
+ghost use Prim.Native.Nat.{_+_, _≤_};
 ghost use mathlib.Core.List.{_++_};
 ghost use lib.ListN.{length};
 ghost use Rattle.hash.specs.XXH3.{xxh3-128};
-ghost use Rattle.frames.specs.Refusals.{scanNumber};
+ghost use Rattle.frames.specs.Refusals.{frameNumber, scanNumber};
 ghost use Rattle.frames.specs.Scan.{going, cutAt, partAt, sumAt, frameOf, frameAt, checkedOf, stepOf};
 
 pub struct Scanner {
@@ -88,6 +88,18 @@ pub fn entry_sum(file: &[u8], entry: ScanEntry) -> Hash128
     ensures { λ r. ⌜ r ≡ sumAt (now (file .entry)) entry ⌝ }
 {
     places_sum(file, entry.key, entry.value)
+}
+
+impl FrameRefusal {
+    // Document 01's number.
+    pub fn number(self) -> u64
+        ensures { λ r. ⌜ r ≡ frameNumber self ⌝ }
+    {
+        match self {
+            FrameRefusal::CutShort(_) => 7,
+            FrameRefusal::InvalidHeader { at: _ } => 8,
+        }
+    }
 }
 
 impl ScanRefusal {

@@ -324,6 +324,7 @@ impl Writer {
         ensures { λ r. ⌜ (r ≡ appendAnswer self (length (now (buf .entry))) (length (now (key .entry))) (length (now (value .entry))) (length (now (value .entry))))
             × (now (buf .exit) ≡ appendBytes self (now (buf .entry)) (now (key .entry)) seqno (length (now (value .entry))) (now (value .entry))) ⌝ }
     {
+        // a longer value is refused before its stated length is looked at
         let stated = lesser(value.len(), 4294967295) as u32;
         self.append_raw(buf, key, seqno, stated, value)
     }
@@ -353,13 +354,13 @@ impl Writer {
     pub fn next_file(self) -> Opened
         ensures { λ r. ⌜ r ≡ nextOf self ⌝ }
     {
-        if self.finished {
-            if MOST <= self.id {
-                return Opened::Refused(NextRefusal::IdsUsedUp, self);
-            }
-            let w = Writer::new(self.id + 1).use_target_size(self.target);
-            return Opened::Next(w);
+        if !self.finished {
+            return Opened::Refused(NextRefusal::NotFinished, self);
         }
-        Opened::Refused(NextRefusal::NotFinished, self)
+        if MOST <= self.id {
+            return Opened::Refused(NextRefusal::IdsUsedUp, self);
+        }
+        let w = Writer::new(self.id + 1).use_target_size(self.target);
+        Opened::Next(w)
     }
 }

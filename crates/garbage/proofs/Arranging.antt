@@ -64,13 +64,13 @@ byOutcome m (made l) = ran (holding m l)
 byOutcome m sumTooBig = refused
 byOutcome m mapFull = refused
 
-module _ (m : FragmentationMap) (l : List Entry) (h : Holds m l) (p : BlobIndirection) (t : Typed p) where
-  back : indirectionOf 0 (indirectionBytes p) ≡ ReadIndirection.Indirection p (length (indirectionBytes p))
-  back = indirection-back p 0 (indirectionBytes p) [] (t .0) (t .1) (t .2) (t .3) (sym (append-nil (indirectionBytes p)))
+pub spelled : (p : BlobIndirection) → Typed p → indirectionOf 0 (indirectionBytes p) ≡ ReadIndirection.Indirection p (length (indirectionBytes p))
+spelled p t = indirection-back p 0 (indirectionBytes p) [] (t .0) (t .1) (t .2) (t .3) (sym (append-nil (indirectionBytes p)))
 
+module _ (m : FragmentationMap) (l : List Entry) (h : Holds m l) (p : BlobIndirection) (t : Typed p) where
   record-is : recordOf m true (indirectionBytes p) ≡ read (answered m (judged (added (one p) l)))
   unfolding pick
-  record-is = rw (h .well, back, h .well, h .entries)
+  record-is = rw (h .well, spelled p t, h .well, h .entries)
 
   drop-is : dropping p m ≡ byOutcome m (judged (added (one p) l))
   drop-is = ap (λ (d : RecordDropped). byAnswer (d .answer) (d .map)) record-is ∙ go (judged (added (one p) l))

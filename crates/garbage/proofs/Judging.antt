@@ -1,4 +1,4 @@
--- A file's own drops decide whether it is dead; and a stored map reads back.
+-- A file's own drops decide whether it is dead.
 use Prim.Native.Nat.{ℕ, zero, suc, _+_, _-_, _*_, _≤_, _<_, _^_}
 use mathlib.Core.Path.{_≡_, refl, sym, _∙_, ap, ap₂}
 use mathlib.Core.List.{List, [], _∷_, _++_, append-assoc, append-nil}

@@ -1,3 +1,4 @@
+-- What the proofs share, and the theorems.
 pub mod Bools
 pub mod Insert
 pub mod Halving
@@ -19,6 +20,8 @@ pub mod Tallying
 pub mod Arranging
 pub mod Judging
 pub mod ReadingBack
-pub mod Theorems
 pub mod Batching
+pub mod Dealing
 pub mod Writing
+pub mod Example
+pub mod Theorems

@@ -70,8 +70,8 @@ large x h z =
     let o : grid binary32 x 1 < overflow binary32 = rw g (lt-of-le-of-lt (mul-le-mul-right (2 ^ (k + 149)) (kept-le x)) (lt-of-le-of-lt (le-of-eq (sym (pow-add 2 24 (k + 149)))) (pow-lt {j = 277} (omega (arith, lost-le x h))))) in
     rescale (round binary32 false x 1) (grid binary32 x 1) (2 ^ 149) (q * 2 ^ k) (pow-pos 149) (mul-assoc q (2 ^ k) (2 ^ 149) ∙ ap (λ (y : ℕ). q * y) (sym (pow-add 2 k 149)) ∙ sym g) (round-val binary32 x 1 o)
 
-pub value : (x : ℕ) → 0 < x → x < 2 ^ 64 → HasValue (round binary32 false x 1) false (rounded (lost x) x * 2 ^ lost x) 1
-value x p h = ⊎-elim (small x) (large x h) (le-or-gt (size x) 24)
+pub value : (x : ℕ) → x < 2 ^ 64 → HasValue (round binary32 false x 1) false (rounded (lost x) x * 2 ^ lost x) 1
+value x h = ⊎-elim (small x) (large x h) (le-or-gt (size x) 24)
 
 -- ---- the products
 product : (q a : ℕ) → 0 < q → (y : Float) → HasValue y false q 1 → a ≤ 24 → mul binary32 y (ofInt binary32 (pos (2 ^ a))) ≡ round binary32 false (q * 2 ^ a) 1
@@ -93,7 +93,7 @@ something x a b h e ha hb p =
     ap (λ (y : Float). mul binary32 y (ofInt binary32 (pos (2 ^ b)))) one
     ∙ two
     ∙ ap (λ (y : ℕ). round binary32 false y 1) m
-    ∙ whole-unique binary32 (round binary32 false (q * 2 ^ lost x) 1) (round binary32 false x 1) false (q * 2 ^ lost x) (round-fits binary32 false (q * 2 ^ lost x) 1) (round-fits binary32 false x 1) (exact q (lost x) (kept-le x) (lost-le x h)) (value x p h)
+    ∙ whole-unique binary32 (round binary32 false (q * 2 ^ lost x) 1) (round binary32 false x 1) false (q * 2 ^ lost x) (round-fits binary32 false (q * 2 ^ lost x) 1) (round-fits binary32 false x 1) (exact q (lost x) (kept-le x) (lost-le x h)) (value x h)
 
 zeros : mul binary32 (mul binary32 (ofInt binary32 (pos (rounded (lost 0) 0))) (ofInt binary32 (pos (2 ^ 0)))) (ofInt binary32 (pos (2 ^ 0))) ≡ ofInt binary32 (pos 0)
 unfolding ofInt mul round size

@@ -15,21 +15,21 @@ use Rattle.frames.specs.RunLaws as run
 use Rattle.garbage.specs.Tallies.{Typed, AllTyped}
 use Rattle.garbage.specs.Files.{Frame, File, goneOf, allGone, statedOf, Own, Finished, AllFinished, Distinct, In}
 use Rattle.garbage.specs.Files as F
-use Rattle.garbage.specs.Written.{Written, runOf, FromZero, AllFromZero, marked, fileOf, filesOf, Among, here, there}
+use Rattle.garbage.specs.Written.{Written, runOf, FromZero, AllFromZero, withDrops, fileOf, filesOf, Among, here, there}
 use Rattle.garbage.specs.Verdicts.{deadOf}
 use Rattle.garbage.specs.Arrangements.{pointersOf}
 use Rattle.garbage.specs.Theorems.{WrittenSameBytes, WrittenDeadExactly}
-use Rattle.garbage.proofs.Theorems.{same-bytes, dead-exactly}
+use Rattle.garbage.proofs.Dealing.{same-bytes, dead-exactly}
 
 -- ---- one file
 module _ (id most : ℕ) (small : id < 2 ^ 64) (m : most < 2 ^ 64) where
-  own : (offset : ℕ) (fs : List Accepted) (gone : List Bool) → Laid id offset fs → offset + length (allBytes fs) ≤ most → Own id (marked fs gone)
+  own : (offset : ℕ) (fs : List Accepted) (gone : List Bool) → Laid id offset fs → offset + length (allBytes fs) ≤ most → Own id (withDrops fs gone)
   unfolding allBytes
   own offset [] gone l h = tt
   own offset (f ∷ fs) [] l h = one offset f fs l h (own (offset + length (bytesFor f)) fs [] (l .1))
     where
       one : (offset : ℕ) (f : Accepted) (fs : List Accepted) → Laid id offset (f ∷ fs) → offset + length (bytesFor f ++ allBytes fs) ≤ most
-          → (offset + length (bytesFor f) + length (allBytes fs) ≤ most → Own id (marked fs [])) → Own id (marked (f ∷ fs) [])
+          → (offset + length (bytesFor f) + length (allBytes fs) ≤ most → Own id (withDrops fs [])) → Own id (withDrops (f ∷ fs) [])
       one offset f fs l h k =
           let n = length-append (bytesFor f) (allBytes fs) in
           let p = l .0 .pointer in
@@ -37,13 +37,13 @@ module _ (id most : ℕ) (small : id < 2 ^ 64) (m : most < 2 ^ 64) where
   own offset (f ∷ fs) (b ∷ gone) l h = one offset f fs l h (own (offset + length (bytesFor f)) fs gone (l .1))
     where
       one : (offset : ℕ) (f : Accepted) (fs : List Accepted) → Laid id offset (f ∷ fs) → offset + length (bytesFor f ++ allBytes fs) ≤ most
-          → (offset + length (bytesFor f) + length (allBytes fs) ≤ most → Own id (marked fs gone)) → Own id (marked (f ∷ fs) (b ∷ gone))
+          → (offset + length (bytesFor f) + length (allBytes fs) ≤ most → Own id (withDrops fs gone)) → Own id (withDrops (f ∷ fs) (b ∷ gone))
       one offset f fs l h k =
           let n = length-append (bytesFor f) (allBytes fs) in
           let p = l .0 .pointer in
           (rw p, (rw p (omega arith), rw p small, rw p (omega (arith, l .0 .value)), rw p (l .0 .stated)), k (omega arith))
 
-stated-is : (id offset : ℕ) (fs : List Accepted) (gone : List Bool) → Laid id offset fs → statedSum fs ≡ statedOf (marked fs gone)
+stated-is : (id offset : ℕ) (fs : List Accepted) (gone : List Bool) → Laid id offset fs → statedSum fs ≡ statedOf (withDrops fs gone)
 unfolding statedSum statedOf
 stated-is id offset [] gone l = refl
 stated-is id offset (f ∷ fs) [] l = ap₂ _+_ (sym (ap (λ (p : BlobIndirection). p .stated) (l .0 .pointer))) (stated-is id (offset + length (bytesFor f)) fs [] (l .1))
@@ -64,11 +64,13 @@ module _ (f : Written) (z : FromZero f) where
     total = ran .stated ∙ ap (λ (n : ℕ). n + statedSum (runOf f .frames)) (z .stated) ∙ (let e : 0 + statedSum (runOf f .frames) ≡ statedSum (runOf f .frames) = omega arith in e) ∙ stated-is (f .writer .id) (f .writer .offset) (runOf f .frames) (f .gone) (ran .laid);
   }
 
-  pub reported : (report : Report) → runOf f .reports ≡ report ∷ [] → reportOf (runOf f .writer) ≡ report
+  pub one-report : runOf f .reports ≡ reportOf (runOf f .writer) ∷ []
   unfolding pick
+  one-report = ran .reports ∙ rw (z .done)
+
+  pub reported : (report : Report) → runOf f .reports ≡ report ∷ [] → reportOf (runOf f .writer) ≡ report
   reported report e =
-      let p : runOf f .reports ≡ reportOf (runOf f .writer) ∷ [] = ran .reports ∙ rw (z .done) in
-      let q : reportOf (runOf f .writer) ∷ [] ≡ report ∷ [] = sym p ∙ e in
+      let q : reportOf (runOf f .writer) ∷ [] ≡ report ∷ [] = sym one-report ∙ e in
       first q
     where
       first : {a b : Report} → a ∷ [] ≡ b ∷ [] → a ≡ b

@@ -1,4 +1,5 @@
 -- Drops one after another (document 01, a batch "is taken whole, or refused with its first refusal").
+use mathlib.Core.Path.{refl}
 use mathlib.Core.List.{List, [], _∷_, map}
 use Rattle.numbers.specs.Pick.{pick}
 use Rattle.numbers.specs.declared.handle.BlobIndirection.{BlobIndirection}
@@ -10,6 +11,7 @@ use Rattle.garbage.specs.declared.dropped.Dropped.{Dropped}
 use Rattle.garbage.specs.Entries.{Entry, added, Outcome, made, sumTooBig, mapFull, judged}
 use Rattle.garbage.specs.Maps.{entriesOf, wellFormed}
 use Rattle.garbage.specs.Drops.{one, answered, droppedOf}
+use Rattle.garbage.specs.Refusals.{countNumber, refuseCount}
 
 -- what was made goes on; a refusal stays
 abbrev pub afterwards : Outcome → (List Entry → Outcome) → Outcome
@@ -24,12 +26,14 @@ inTurn (e ∷ es) l = afterwards (judged (added e l)) (inTurn es)
 
 -- a malformed map is 11 first, also for an empty list
 abbrev pub batchOf : FragmentationMap → List BlobIndirection → Dropped
-batchOf m ps = pick (wellFormed m) (answered m (inTurn (map one ps) (entriesOf m))) (record { answer = Refused MapFull; map = m })
+batchOf m ps =
+    pick (wellFormed m) (answered m (inTurn (map one ps) (entriesOf m)))
+    (record { answer = refuseCount 11 MapFull refl; map = m })
 
 -- the same drops made one call after another: where one is refused, its refusal with the first map
 abbrev pub goingOn : Counted → FragmentationMap → Dropped → Dropped
 goingOn Done first next = next
-goingOn (Refused why) first next = record { answer = Refused why; map = first }
+goingOn (Refused why) first next = record { answer = refuseCount (countNumber why) why refl; map = first }
 
 unfoldable pub oneByOne : FragmentationMap → FragmentationMap → List BlobIndirection → Dropped
 oneByOne first m [] = record { answer = Done; map = m }

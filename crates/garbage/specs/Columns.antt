@@ -1,6 +1,6 @@
 -- In the code's own shape, for private functions: places in columns of numbers, and a count that stands for refusals too.
 use Prim.Native.Nat.{ℕ, zero, suc, _+_, _≤_}
-use mathlib.Core.Path.{_≡_}
+use mathlib.Core.Path.{_≡_, refl}
 use mathlib.Core.List.{List, [], _∷_, _++_}
 use mathlib.Core.Bool.{Bool, true, false, _&&_}
 use lib.ListN.{length, take, drop, getD, set}
@@ -9,12 +9,13 @@ use Rattle.numbers.specs.Pick.{pick}
 use Rattle.numbers.specs.declared.handle.BlobIndirection.{BlobIndirection}
 use Rattle.garbage.specs.declared.map.FragmentationMap.{FragmentationMap}
 use Rattle.garbage.specs.declared.map.CountRefusal.the-variants.{MapFull, SumTooBig}
-use Rattle.garbage.specs.declared.map.Counted.the-variants.{Done, Refused}
+use Rattle.garbage.specs.declared.map.Counted.the-variants.{Done}
 use Rattle.garbage.specs.declared.dropped.Dropped.{Dropped}
 use Rattle.garbage.specs.Entries.{Entry, plus, added, fits, allFit, Outcome, made, sumTooBig, mapFull, judged}
 use Rattle.garbage.specs.Maps.{Columns, columnsOf, mapOf, entryAt, rows, withEntries, wellFormed}
 use Rattle.garbage.specs.Drops.{one}
 use Rattle.garbage.specs.Stored.{instead}
+use Rattle.garbage.specs.Refusals.{refuseCount}
 
 abbrev pub oneMore : Bool → ℕ → ℕ
 oneMore true n = suc n
@@ -143,7 +144,7 @@ beginOf m = pick (wellFormed m) (m .count) 65
 abbrev pub finishOf : FragmentationMap → ℕ → Columns → Dropped
 finishOf m n c =
     pick (leb n 64) (record { answer = Done; map = mapOf n c })
-    (pick (eqb n 65) (record { answer = Refused MapFull; map = m }) (record { answer = Refused SumTooBig; map = m }))
+    (pick (eqb n 65) (record { answer = refuseCount 11 MapFull refl; map = m }) (record { answer = refuseCount 12 SumTooBig refl; map = m }))
 
 abbrev pub finished : FragmentationMap → State → Dropped
 finished m t = finishOf m (t .n) (t .columns)

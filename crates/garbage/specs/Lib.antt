@@ -1,3 +1,5 @@
+-- The definitions that the contracts cite, leaves first; then the theorems, and the marked examples.
+pub mod Refusals
 pub mod Entries
 pub mod Maps
 pub mod Lookups
@@ -9,10 +11,10 @@ pub mod Stored
 pub mod Ratio
 pub mod Verdicts
 pub mod Columns
-pub mod Refusals
 pub mod Tallies
 pub mod Arrangements
 pub mod Files
 pub mod Written
+pub mod Example
 pub mod Theorems
 pub mod Marked

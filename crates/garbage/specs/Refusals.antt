@@ -1,8 +1,8 @@
--- Document 01's number of each case of an answer, 0 where nothing is refused, and the values that the case carries.
+-- Document 01's number for each refusal of the map, and the values that come with it: the definitions of the answers name their refusals by these.
 use Prim.Native.Nat.{ℕ}
+use mathlib.Core.Path.{_≡_}
 use mathlib.Core.List.{List, [], _∷_}
-use Rattle.numbers.specs.declared.cut.CutShort.{CutShort}
-use Rattle.numbers.specs.declared.leb128.NumberRefusal.{NumberRefusal}
+use Rattle.numbers.specs.Refusals.{valuesOfCut}
 use Rattle.numbers.specs.declared.leb128.NumberRefusal.the-variants as number
 use Rattle.garbage.specs.declared.map.CountRefusal.{CountRefusal}
 use Rattle.garbage.specs.declared.map.CountRefusal.the-variants.{MapFull, SumTooBig}
@@ -18,9 +18,11 @@ use Rattle.garbage.specs.declared.pruned.PruneAnswer.{PruneAnswer}
 use Rattle.garbage.specs.declared.pruned.PruneAnswer.the-variants as prune
 use Rattle.garbage.specs.declared.pruned.StaleBytes.{StaleBytes}
 use Rattle.garbage.specs.declared.pruned.StaleBytes.the-variants as sum
+use Rattle.garbage.specs.declared.stored.StoreRefusal.{StoreRefusal}
 use Rattle.garbage.specs.declared.stored.StoreRefusal.the-variants as store
 use Rattle.garbage.specs.declared.stored.Stored.{Stored}
 use Rattle.garbage.specs.declared.stored.Stored.the-variants as stored
+use Rattle.garbage.specs.declared.stored.LoadRefusal.{LoadRefusal}
 use Rattle.garbage.specs.declared.stored.LoadRefusal.the-variants as load
 use Rattle.garbage.specs.declared.stored.LoadAnswer.{LoadAnswer}
 use Rattle.garbage.specs.declared.stored.LoadAnswer.the-variants as loaded
@@ -29,64 +31,90 @@ use Rattle.garbage.specs.declared.verdict.DeadVerdict.the-variants as de
 use Rattle.garbage.specs.declared.verdict.StaleVerdict.{StaleVerdict}
 use Rattle.garbage.specs.declared.verdict.StaleVerdict.the-variants as stale
 
-abbrev pub Told : Type 0
-Told = ℕ × List ℕ
+-- map full, sum too big
+abbrev pub countNumber : CountRefusal → ℕ
+countNumber MapFull = 11
+countNumber SumTooBig = 12
 
--- 7 cut short: where reading began, bytes needed, bytes present
-abbrev pub cut : CutShort → Told
-cut c = (7, c .at ∷ c .needed ∷ c .present ∷ [])
+-- cut short, number too long, or the drop's
+abbrev pub recordNumber : RecordRefusal → ℕ
+recordNumber (Number (number.CutShort cut)) = 7
+recordNumber (Number number.TooLong) = 10
+recordNumber (Count why) = countNumber why
 
--- 11 map full, 12 sum too big
-abbrev pub numberOfCount : CountRefusal → Told
-numberOfCount MapFull = (11, [])
-numberOfCount SumTooBig = (12, [])
+abbrev pub recordValues : RecordRefusal → List ℕ
+recordValues (Number (number.CutShort cut)) = valuesOfCut cut
+recordValues (Number number.TooLong) = []
+recordValues (Count why) = []
 
-abbrev pub numberOfCounted : Counted → Told
-numberOfCounted counted.Done = (0, [])
-numberOfCounted (counted.Refused why) = numberOfCount why
+abbrev pub recordSays : RecordRefusal → List ℕ
+recordSays why = recordNumber why ∷ recordValues why
 
-abbrev pub numberOfLookup : Lookup → Told
-numberOfLookup (lookup.Found e) = (0, e .id ∷ e .frames ∷ e .stated ∷ e .disk ∷ [])
-numberOfLookup lookup.NoEntry = (0, [])
-numberOfLookup lookup.Refused = (11, [])
+-- map full, no room
+abbrev pub storeNumber : StoreRefusal → ℕ
+storeNumber store.MapFull = 11
+storeNumber store.NoRoom = 3
 
--- 7 cut short, 10 number too long, then 11 and 12
-abbrev pub numberOfRecord : RecordRefusal → Told
-numberOfRecord (Number (number.CutShort c)) = cut c
-numberOfRecord (Number number.TooLong) = (10, [])
-numberOfRecord (Count why) = numberOfCount why
+-- cut short, map full
+abbrev pub loadNumber : LoadRefusal → ℕ
+loadNumber (load.CutShort cut) = 7
+loadNumber load.MapFull = 11
 
-abbrev pub numberOfRecordAnswer : RecordAnswer → Told
-numberOfRecordAnswer answer.Done = (0, [])
-numberOfRecordAnswer (answer.Refused why) = numberOfRecord why
+abbrev pub loadValues : LoadRefusal → List ℕ
+loadValues (load.CutShort cut) = valuesOfCut cut
+loadValues load.MapFull = []
 
-abbrev pub numberOfPrune : PruneAnswer → Told
-numberOfPrune prune.Done = (0, [])
-numberOfPrune prune.MapFull = (11, [])
+abbrev pub loadSays : LoadRefusal → List ℕ
+loadSays why = loadNumber why ∷ loadValues why
 
-abbrev pub numberOfStaleBytes : StaleBytes → Told
-numberOfStaleBytes (sum.Sum total) = (0, total ∷ [])
-numberOfStaleBytes (sum.Refused why) = numberOfCount why
+-- Answers that can be refused by 11 alone carry no refusal of their own. 0 is no refusal's number: nothing is refused.
 
--- 11, 3 no room
-abbrev pub numberOfStored : Stored → Told
-numberOfStored (stored.Used n) = (0, n ∷ [])
-numberOfStored (stored.Refused store.MapFull) = (11, [])
-numberOfStored (stored.Refused store.NoRoom) = (3, [])
+abbrev pub lookupNumber : Lookup → ℕ
+lookupNumber (lookup.Found e) = 0
+lookupNumber lookup.NoEntry = 0
+lookupNumber lookup.Refused = 11
 
-abbrev pub numberOfLoaded : LoadAnswer → Told
-numberOfLoaded (loaded.Used n) = (0, n ∷ [])
-numberOfLoaded (loaded.Refused (load.CutShort c)) = cut c
-numberOfLoaded (loaded.Refused load.MapFull) = (11, [])
+abbrev pub pruneNumber : PruneAnswer → ℕ
+pruneNumber prune.Done = 0
+pruneNumber prune.MapFull = 11
 
-abbrev pub numberOfDead : DeadVerdict → ℕ
-numberOfDead dead.Dead = 0
-numberOfDead dead.Wanted = 0
-numberOfDead dead.NoEntry = 0
-numberOfDead dead.Refused = 11
+abbrev pub deadNumber : DeadVerdict → ℕ
+deadNumber dead.Dead = 0
+deadNumber dead.Wanted = 0
+deadNumber dead.NoEntry = 0
+deadNumber dead.Refused = 11
 
-abbrev pub numberOfStale : StaleVerdict → ℕ
-numberOfStale (stale.Stale ratio) = 0
-numberOfStale (stale.Kept ratio) = 0
-numberOfStale stale.NoEntry = 0
-numberOfStale stale.Refused = 11
+abbrev pub staleNumber : StaleVerdict → ℕ
+staleNumber (stale.Stale ratio) = 0
+staleNumber (stale.Kept ratio) = 0
+staleNumber stale.NoEntry = 0
+staleNumber stale.Refused = 11
+
+-- A refused answer, named together with its number (and values): a wrong pair has no proof, and is refused here.
+
+abbrev pub refuseCount : (number : ℕ) (why : CountRefusal) → countNumber why ≡ number → Counted
+refuseCount number why e = counted.Refused why
+
+abbrev pub refuseSum : (number : ℕ) (why : CountRefusal) → countNumber why ≡ number → StaleBytes
+refuseSum number why e = sum.Refused why
+
+abbrev pub refuseRecord : (says : List ℕ) (why : RecordRefusal) → recordSays why ≡ says → RecordAnswer
+refuseRecord says why e = answer.Refused why
+
+abbrev pub refuseStore : (number : ℕ) (why : StoreRefusal) → storeNumber why ≡ number → Stored
+refuseStore number why e = stored.Refused why
+
+abbrev pub refuseLoad : (says : List ℕ) (why : LoadRefusal) → loadSays why ≡ says → LoadAnswer
+refuseLoad says why e = loaded.Refused why
+
+abbrev pub refuseLookup : (number : ℕ) (answer : Lookup) → lookupNumber answer ≡ number → Lookup
+refuseLookup number answer e = answer
+
+abbrev pub refusePrune : (number : ℕ) (answer : PruneAnswer) → pruneNumber answer ≡ number → PruneAnswer
+refusePrune number answer e = answer
+
+abbrev pub refuseDead : (number : ℕ) (answer : DeadVerdict) → deadNumber answer ≡ number → DeadVerdict
+refuseDead number answer e = answer
+
+abbrev pub refuseStale : (number : ℕ) (answer : StaleVerdict) → staleNumber answer ≡ number → StaleVerdict
+refuseStale number answer e = answer

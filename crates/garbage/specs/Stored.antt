@@ -1,5 +1,6 @@
 -- The stored form (document 01, "Stored form: u32 count, then per entry u64 id, u32 frames, two u64; 28 bytes each").
 use Prim.Native.Nat.{ℕ, zero, suc, _+_, _-_, _*_}
+use mathlib.Core.Path.{refl}
 use mathlib.Core.List.{List, [], _∷_, _++_}
 use lib.ListN.{length, drop}
 use lib.Seq.{sets}
@@ -10,12 +11,13 @@ use Rattle.garbage.specs.declared.map.FragmentationMap.{FragmentationMap
 use Rattle.garbage.specs.declared.stored.StoreRefusal.the-variants as store
 use Rattle.garbage.specs.declared.stored.Stored.{Stored}
 use Rattle.garbage.specs.declared.stored.Stored.the-variants as stored
-use Rattle.garbage.specs.declared.stored.LoadRefusal.{LoadRefusal}
 use Rattle.garbage.specs.declared.stored.LoadRefusal.the-variants as load
-use Rattle.garbage.specs.declared.stored.LoadAnswer.the-variants.{Used, Refused}
+use Rattle.garbage.specs.declared.stored.LoadAnswer.{LoadAnswer}
+use Rattle.garbage.specs.declared.stored.LoadAnswer.the-variants.{Used}
 use Rattle.garbage.specs.declared.stored.Loaded.{Loaded}
 use Rattle.garbage.specs.Entries.{Entry, joined}
 use Rattle.garbage.specs.Maps.{entriesOf, holding, wellFormed, emptyMap}
+use Rattle.garbage.specs.Refusals.{refuseStore, refuseLoad}
 
 -- ---- writing
 unfoldable pub entryBytes : Entry → List ℕ
@@ -31,7 +33,10 @@ storedForm m = le 4 (m .count) ++ entriesBytes (entriesOf m)
 
 -- 11, then 3 where it does not fit; the bytes used
 unfoldable pub storeAnswer : FragmentationMap → List ℕ → Stored
-storeAnswer m buf = pick (wellFormed m) (pick (leb (length (storedForm m)) (length buf)) (stored.Used (length (storedForm m))) (stored.Refused store.NoRoom)) (stored.Refused store.MapFull)
+storeAnswer m buf =
+    pick (wellFormed m)
+    (pick (leb (length (storedForm m)) (length buf)) (stored.Used (length (storedForm m))) (refuseStore 3 store.NoRoom refl))
+    (refuseStore 11 store.MapFull refl)
 
 -- at the front; refused, no byte altered
 unfoldable pub storeBytes : FragmentationMap → List ℕ → List ℕ
@@ -58,8 +63,13 @@ insteadAll [] l = l
 insteadAll (e ∷ es) l = insteadAll es (instead e l)
 
 -- refused: an empty map
-abbrev pub noneLoaded : LoadRefusal → Loaded
-noneLoaded why = record { answer = Refused why; map = emptyMap }
+abbrev pub noneLoaded : LoadAnswer → Loaded
+noneLoaded answer = record { answer = answer; map = emptyMap }
+
+-- 7 with where, needed and present
+abbrev pub cutLoaded : ℕ → ℕ → ℕ → Loaded
+cutLoaded at needed present =
+    noneLoaded (refuseLoad (7 ∷ at ∷ needed ∷ present ∷ []) (load.CutShort (record { at = at; needed = needed; present = present })) refl)
 
 -- k entries: the bytes used, and a map that holds them
 abbrev pub someLoaded : ℕ → List ℕ → Loaded
@@ -68,7 +78,7 @@ someLoaded k s = record { answer = Used (4 + 28 * k); map = holding emptyMap (in
 -- 7 for the count, then 11, then 7 for entries; what follows is left
 unfoldable pub loadOf : List ℕ → Loaded
 loadOf s =
-    pick (ltb (length s) 4) (noneLoaded (load.CutShort (record { at = 0; needed = 4; present = length s })))
-    (pick (ltb 64 (num 4 s)) (noneLoaded load.MapFull)
-    (pick (ltb (length s - 4) (28 * num 4 s)) (noneLoaded (load.CutShort (record { at = 4; needed = 28 * num 4 s; present = length s - 4 })))
+    pick (ltb (length s) 4) (cutLoaded 0 4 (length s))
+    (pick (ltb 64 (num 4 s)) (noneLoaded (refuseLoad (11 ∷ []) load.MapFull refl))
+    (pick (ltb (length s - 4) (28 * num 4 s)) (cutLoaded 4 (28 * num 4 s) (length s - 4))
     (someLoaded (num 4 s) s)))

@@ -19,7 +19,8 @@ pub record Written : Type 0 where
 abbrev pub runOf : Written → Run
 runOf f = run (f .calls) (f .writer) (f .buffer)
 
--- "finished files, each written from offset 0 and zero counts": any id and target, plain and raw appends, target settings and finishes, accepted and refused mixed, finished by either way
+-- finished files, "each written from offset 0 and zero counts": any id and target, plain and raw appends, target settings and finishes,
+-- accepted and refused mixed, finished by either way
 pub record FromZero (f : Written) : Type 0 where
   pub unfinished : f .writer .finished ≡ false
   pub offset : f .writer .offset ≡ 0
@@ -35,14 +36,14 @@ abbrev pub AllFromZero : List Written → Type 0
 AllFromZero [] = Unit {0}
 AllFromZero (f ∷ fs) = FromZero f × AllFromZero fs
 
--- the indirections that the appends handed out, each with its mark; where marks run out, not dropped
-abbrev pub marked : List Accepted → List Bool → List Frame
-marked [] gone = []
-marked (f ∷ fs) [] = record { pointer = f .pointer; gone = false } ∷ marked fs []
-marked (f ∷ fs) (b ∷ gone) = record { pointer = f .pointer; gone = b } ∷ marked fs gone
+-- the indirections that the appends handed out, each with whether it is dropped; where that is not said, it is not
+abbrev pub withDrops : List Accepted → List Bool → List Frame
+withDrops [] gone = []
+withDrops (f ∷ fs) [] = record { pointer = f .pointer; gone = false } ∷ withDrops fs []
+withDrops (f ∷ fs) (b ∷ gone) = record { pointer = f .pointer; gone = b } ∷ withDrops fs gone
 
 abbrev pub fileOf : Written → File
-fileOf f = record { id = f .writer .id; frames = marked (runOf f .frames) (f .gone); report = reportOf (runOf f .writer) }
+fileOf f = record { id = f .writer .id; frames = withDrops (runOf f .frames) (f .gone); report = reportOf (runOf f .writer) }
 
 abbrev pub filesOf : List Written → List File
 filesOf fs = map fileOf fs

@@ -7,6 +7,9 @@ ghost use Rattle.garbage.specs.Maps.{Columns, entryAt};
 ghost use Rattle.garbage.specs.Columns.{placeIn, risingFrom, insertedAt, Inserted, written, Whole, Ready, Grew, state, addOf};
 use crate::map::FragmentationEntry;
 
+// The largest total.
+pub(crate) const MOST: u64 = 18446744073709551615;
+
 // The first of the `n` ids, which ascend, that is not below `id`, or `n`: by halves.
 pub(crate) fn place(ids: &[u64; 64], n: usize, id: u64) -> usize
     requires { ⌜ (n ≤ 64) × (length (now ids) ≡ 64) × (risingFrom 0 (take n (now ids)) ≡ true) ⌝ }
@@ -143,8 +146,8 @@ fn grow(
     let a = stated[i];
     let b = disk[i];
     if f <= 4294967295 - e.frames {
-        if a <= 18446744073709551615 - e.stated {
-            if b <= 18446744073709551615 - e.disk {
+        if a <= MOST - e.stated {
+            if b <= MOST - e.disk {
                 frames[i] = f + e.frames;
                 stated[i] = a + e.stated;
                 disk[i] = b + e.disk;

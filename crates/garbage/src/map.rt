@@ -2,6 +2,7 @@
 ghost use mathlib.Core.Path.{_≡_};
 ghost use Rattle.garbage.specs.Maps.{Columns, emptyMap, mapOf, wellFormed};
 ghost use Rattle.garbage.specs.Lookups.{lookupOf};
+ghost use Rattle.garbage.specs.Refusals.{countNumber, lookupNumber};
 use crate::columns::ascending;
 use crate::columns::entry_at;
 use crate::columns::place;
@@ -39,6 +40,31 @@ pub enum Lookup {
     Found(FragmentationEntry),
     NoEntry,
     Refused,
+}
+
+impl CountRefusal {
+    // Document 01's number.
+    pub fn number(self) -> u64
+        ensures { λ r. ⌜ r ≡ countNumber self ⌝ }
+    {
+        match self {
+            CountRefusal::MapFull => 11,
+            CountRefusal::SumTooBig => 12,
+        }
+    }
+}
+
+impl Lookup {
+    // Document 01's number; 0 where nothing is refused.
+    pub fn number(self) -> u64
+        ensures { λ r. ⌜ r ≡ lookupNumber self ⌝ }
+    {
+        match self {
+            Lookup::Found(_) => 0,
+            Lookup::NoEntry => 0,
+            Lookup::Refused => 11,
+        }
+    }
 }
 
 // Whether a map is well formed.

@@ -6,6 +6,7 @@ ghost use Rattle.garbage.specs.Entries.{plus, fits, addedAll, ascendingF
 ghost use Rattle.garbage.specs.Maps.{Columns, rows, entriesOf, wellFormed};
 ghost use Rattle.garbage.specs.Columns.{Ready, Fine, Turned, state, foldOf, settled, coded, totalOf, sumsFit};
 ghost use Rattle.garbage.specs.Merges.{mergeAnswered, mergedOf};
+use crate::columns::MOST;
 use crate::columns::add;
 use crate::columns::entry_at;
 use crate::columns::place;
@@ -28,8 +29,8 @@ fn fit(frames: u32, stated: u64, disk: u64, e: FragmentationEntry) -> bool
     ensures { λ r. ⌜ r ≡ fits (plus (record { id = e .id; frames = frames; stated = stated; disk = disk }) e) ⌝ }
 {
     if frames <= 4294967295 - e.frames {
-        if stated <= 18446744073709551615 - e.stated {
-            if disk <= 18446744073709551615 - e.disk {
+        if stated <= MOST - e.stated {
+            if disk <= MOST - e.disk {
                 return true;
             }
         }

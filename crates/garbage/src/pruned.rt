@@ -4,6 +4,8 @@ ghost use Prim.Native.Nat.{ℕ, _+_, _<_, _≤_};
 ghost use Rattle.garbage.specs.Maps.{Columns, columnsOf, entriesOf};
 ghost use Rattle.garbage.specs.Columns.{Whole, keptIn, state, holds};
 ghost use Rattle.garbage.specs.Merges.{listedIn, keptOf, prunedOf, staleBytesOf};
+ghost use Rattle.garbage.specs.Refusals.{pruneNumber};
+use crate::columns::MOST;
 use crate::columns::entry_at;
 use crate::columns::write;
 use crate::map::CountRefusal;
@@ -25,6 +27,18 @@ pub struct Pruned {
 pub enum StaleBytes {
     Sum(u64),
     Refused(CountRefusal),
+}
+
+impl PruneAnswer {
+    // Document 01's number; 0 where nothing is refused.
+    pub fn number(self) -> u64
+        ensures { λ r. ⌜ r ≡ pruneNumber self ⌝ }
+    {
+        match self {
+            PruneAnswer::Done => 0,
+            PruneAnswer::MapFull => 11,
+        }
+    }
 }
 
 fn listed(ids: &[u64], id: u64) -> bool
@@ -123,7 +137,7 @@ impl FragmentationMap {
             let mut i = 0;
             while i < n {
                 let d = disk[i];
-                if 18446744073709551615 - total < d {
+                if MOST - total < d {
                     return StaleBytes::Refused(CountRefusal::SumTooBig);
                 }
                 total += d;

@@ -1,6 +1,7 @@
 // A dropped record as a tree holds it: the encoded indirection, with its mark.
 ghost use mathlib.Core.Path.{_≡_};
 ghost use Rattle.garbage.specs.Records.{recordOf, read};
+ghost use Rattle.garbage.specs.Refusals.{recordNumber};
 use crate::dropped::Dropped;
 use crate::map::CountRefusal;
 use crate::map::Counted;
@@ -24,6 +25,23 @@ pub enum RecordAnswer {
 pub struct RecordDropped {
     pub answer: RecordAnswer,
     pub map: FragmentationMap,
+}
+
+impl RecordRefusal {
+    // Document 01's number.
+    pub fn number(self) -> u64
+        ensures { λ r. ⌜ r ≡ recordNumber self ⌝ }
+    {
+        match self {
+            RecordRefusal::Number(why) => {
+                match why {
+                    NumberRefusal::CutShort(_) => 7,
+                    NumberRefusal::TooLong => 10,
+                }
+            }
+            RecordRefusal::Count(why) => why.number(),
+        }
+    }
 }
 
 fn told(d: Dropped) -> RecordDropped

@@ -6,6 +6,7 @@ ghost use lib.Seq.{sets};
 ghost use mathlib.Core.List.{[]};
 ghost use Rattle.garbage.specs.Maps.{Columns, mapOf, rows};
 ghost use Rattle.garbage.specs.Columns.{Whole, Rising, state, holds, insteadOf};
+ghost use Rattle.garbage.specs.Refusals.{storeNumber, loadNumber};
 ghost use Rattle.garbage.specs.Stored.{entryBytes, entriesBytes, entryIn, entriesIn, insteadAll, storeAnswer, storeBytes, noneLoaded, someLoaded, loadOf};
 use crate::columns::ascending;
 use crate::columns::entry_at;
@@ -45,6 +46,30 @@ pub enum LoadAnswer {
 pub struct Loaded {
     pub answer: LoadAnswer,
     pub map: FragmentationMap,
+}
+
+impl StoreRefusal {
+    // Document 01's number.
+    pub fn number(self) -> u64
+        ensures { λ r. ⌜ r ≡ storeNumber self ⌝ }
+    {
+        match self {
+            StoreRefusal::MapFull => 11,
+            StoreRefusal::NoRoom => 3,
+        }
+    }
+}
+
+impl LoadRefusal {
+    // Document 01's number.
+    pub fn number(self) -> u64
+        ensures { λ r. ⌜ r ≡ loadNumber self ⌝ }
+    {
+        match self {
+            LoadRefusal::CutShort(_) => 7,
+            LoadRefusal::MapFull => 11,
+        }
+    }
 }
 
 fn put_entry(buf: &mut [u8], at: usize, e: FragmentationEntry)
@@ -164,7 +189,7 @@ fn get_entries(
 }
 
 fn load_none(why: LoadRefusal) -> Loaded
-    ensures { λ r. ⌜ r ≡ noneLoaded why ⌝ }
+    ensures { λ r. ⌜ r ≡ noneLoaded (LoadAnswer.Refused why) ⌝ }
 {
     Loaded {
         answer: LoadAnswer::Refused(why),

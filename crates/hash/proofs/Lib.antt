@@ -16,5 +16,6 @@ mod SecretWords
 mod Small
 mod Stripes
 mod Tables
+mod Theorems
 mod Turns
 mod Whole

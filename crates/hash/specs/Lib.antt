@@ -7,3 +7,4 @@ pub mod XXH3
 pub mod Shape
 pub mod ShapeLong
 pub mod Bounds
+pub mod Theorems

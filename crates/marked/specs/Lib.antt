@@ -1,1 +1,2 @@
+-- The marked examples, as one statement.
 pub mod Marked

@@ -27,9 +27,10 @@ use Rattle.merge.specs.MergeLaws.{next-ok, next-bad, at-count, taken-ok,
 use Rattle.merge.specs.Rows.{listed, given}
 use Rattle.merge.specs.RowsLaws.{given-none}
 use Rattle.merge.specs.Drain.{judgedBy, drainedBy, leftIn, left, drainIn, drainOf}
-use Rattle.merge.specs.DrainLaws.{drain-bad}
+use Rattle.merge.specs.DrainLaws.{enough, drain-bad}
 use Rattle.merge.specs.Sorted.{Leq, Sorted}
-use Rattle.merge.specs.Theorems.{Reads, ended, found, ReadsAll, empty, part, Gives, over, one, fromPart, Started, MergeEnds, MergeExact, MergeSorted, MergeBounded, DrainSame}
+use Rattle.merge.specs.Theorems.{Reads, ended, found, ReadsAll, empty, part, Gives, over, one, fromPart, Started}
+use Rattle.merge.specs.Theorems.{MergeEnds, MergeExact, MergeSorted, MergeBounded, DrainSame, DrainEnough, Theorems}
 use Rattle.merge.proofs.Merges.{Merges, done, next, merged-sorted, Numbered, exact, total, total-less}
 use Rattle.merge.proofs.Fronts.{Front, blank, taken, fronts}
 
@@ -200,3 +201,17 @@ module _ (image key : List ℕ) (handle : ValueHandle) where
 
 pub drain-same : DrainSame
 drain-same image key handle m h = bad-by image key handle m _ refl h
+
+pub drain-enough : DrainEnough
+unfolding drainOf
+drain-enough image key handle m k h = enough image key handle k (suc (left m)) m h (omega arith)
+
+pub theorems : Theorems
+theorems = record {
+  mergeEnds = merge-ends;
+  mergeExact = merge-exact;
+  mergeSorted = merge-sorted;
+  mergeBounded = merge-bounded;
+  drainSame = drain-same;
+  drainEnough = drain-enough;
+}

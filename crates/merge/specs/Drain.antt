@@ -5,7 +5,6 @@ use mathlib.Core.List.{List, [], _∷_}
 use lib.Dec.{ltb, eqb}
 use Rattle.numbers.specs.Pick.{pick}
 use Rattle.numbers.specs.declared.handle.ValueHandle.{ValueHandle}
-use Rattle.frames.specs.Refusals.{scanSays}
 use Rattle.frames.specs.Scan.{partAt}
 use Rattle.merge.specs.declared.parts.Part.{Part}
 use Rattle.merge.specs.declared.parts.MergeScanner.{MergeScanner}
@@ -56,7 +55,7 @@ unfoldable pub drainedBy : List ℕ → List ℕ → ValueHandle → MergeScanne
 drainedBy image key handle m rest (answer.Entry x) = judgedBy m rest (verdictOf image x key handle)
 drainedBy image key handle m rest answer.End = leave m outcome.End
 drainedBy image key handle m rest (answer.Refused merge.BadPart) = leave m (refuseDrain (13 ∷ []) refusal.BadPart refl)
-drainedBy image key handle m rest (answer.Refused (merge.Scan i why)) = leave m (refuseDrain (ofPart i (scanSays why)) (refusal.Scan i why) refl)
+drainedBy image key handle m rest (answer.Refused (merge.Scan i why)) = leave m (refuseDrain (ofPart i why) (refusal.Scan i why) refl)
 
 -- the bytes left in the first n parts
 unfoldable pub leftIn : ℕ → List Part → ℕ

@@ -1,3 +1,4 @@
+-- The definitions that the contracts cite, the theorems, and laws that the proofs cite.
 pub mod Order
 pub mod Parts
 pub mod Merge

@@ -6,7 +6,6 @@ use mathlib.Core.Bool.{Bool, true, false}
 use lib.Dec.{ltb, eqb}
 use lib.ListN.{length, take, drop}
 use Rattle.numbers.specs.Pick.{pick}
-use Rattle.frames.specs.Refusals.{scanSays}
 use Rattle.frames.specs.Scan.{going, partAt, stepOf}
 use Rattle.frames.specs.declared.place.Place.{Place}
 use Rattle.frames.specs.declared.scanner.ScanEntry.{ScanEntry}
@@ -84,9 +83,9 @@ foremost image i (p ∷ ps) = first image (shown i p (scanAt image p)) (foremost
 unfoldable pub settle : MergeScanner → Foremost → Merged
 settle m none = record { state = m; answer = answer.End }
 settle m (some x next) = record { state = takenOf m (x .part) next; answer = answer.Entry x }
-settle m (refused i why) = record { state = m; answer = refuseMerge (ofPart i (scanSays why)) (refusal.Scan i why) refl }
+settle m (refused i why) = record { state = m; answer = refuseMerge (ofPart i why) (refusal.Scan i why) refl }
 
--- one call; "a malformed part table (13) comes before all else"
+-- one call; a malformed "part table (13) comes before all else"
 unfoldable pub nextOf : MergeScanner → List ℕ → Merged
 nextOf m image =
     pick (tableOk (length image) m) (settle m (foremost image 0 (take (m .count) (m .parts))))

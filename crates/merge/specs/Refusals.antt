@@ -2,7 +2,8 @@
 use Prim.Native.Nat.{ℕ}
 use mathlib.Core.Path.{_≡_}
 use mathlib.Core.List.{List, [], _∷_}
-use Rattle.frames.specs.Refusals.{scanSays}
+use Rattle.frames.specs.Refusals.{scanNumber, scanValues}
+use Rattle.frames.specs.declared.scanner.ScanRefusal.{ScanRefusal}
 use Rattle.merge.specs.declared.drain.DrainOutcome.{DrainOutcome}
 use Rattle.merge.specs.declared.drain.DrainOutcome.the-variants as outcome
 use Rattle.merge.specs.declared.drain.DrainRefusal.{DrainRefusal}
@@ -16,27 +17,53 @@ use Rattle.merge.specs.declared.rows.RowsAnswer.the-variants as rows-ans
 use Rattle.merge.specs.declared.rows.RowsRefusal.{RowsRefusal}
 use Rattle.merge.specs.declared.rows.RowsRefusal.the-variants as rows
 
--- a scan's refusal in a merge: its number, then the part, then its other values
-abbrev pub ofPart : ℕ → List ℕ → List ℕ
-ofPart part [] = []
-ofPart part (number ∷ values) = number ∷ part ∷ values
-
--- 13, or what the scan says
-abbrev pub mergeSays : MergeRefusal → List ℕ
-mergeSays merge.BadPart = 13 ∷ []
-mergeSays (merge.Scan part why) = ofPart part (scanSays why)
+-- 13, or the scan's number
+abbrev pub mergeNumber : MergeRefusal → ℕ
+mergeNumber merge.BadPart = 13
+mergeNumber (merge.Scan part why) = scanNumber why
 
 -- the same, and 3
-abbrev pub rowsSays : RowsRefusal → List ℕ
-rowsSays rows.BadPart = 13 ∷ []
-rowsSays rows.NoRoom = 3 ∷ []
-rowsSays (rows.Scan part why) = ofPart part (scanSays why)
+abbrev pub rowsNumber : RowsRefusal → ℕ
+rowsNumber rows.BadPart = 13
+rowsNumber rows.NoRoom = 3
+rowsNumber (rows.Scan part why) = scanNumber why
 
 -- the same as the merge, and 14
+abbrev pub drainNumber : DrainRefusal → ℕ
+drainNumber drain.BadPart = 13
+drainNumber drain.NotMatched = 14
+drainNumber (drain.Scan part why) = scanNumber why
+
+-- A scan's refusal has values: the part, then the scan's own. The others have none.
+
+abbrev pub mergeValues : MergeRefusal → List ℕ
+mergeValues merge.BadPart = []
+mergeValues (merge.Scan part why) = part ∷ scanValues why
+
+abbrev pub rowsValues : RowsRefusal → List ℕ
+rowsValues rows.BadPart = []
+rowsValues rows.NoRoom = []
+rowsValues (rows.Scan part why) = part ∷ scanValues why
+
+abbrev pub drainValues : DrainRefusal → List ℕ
+drainValues drain.BadPart = []
+drainValues drain.NotMatched = []
+drainValues (drain.Scan part why) = part ∷ scanValues why
+
+-- The number, then the values.
+
+abbrev pub mergeSays : MergeRefusal → List ℕ
+mergeSays why = mergeNumber why ∷ mergeValues why
+
+abbrev pub rowsSays : RowsRefusal → List ℕ
+rowsSays why = rowsNumber why ∷ rowsValues why
+
 abbrev pub drainSays : DrainRefusal → List ℕ
-drainSays drain.BadPart = 13 ∷ []
-drainSays drain.NotMatched = 14 ∷ []
-drainSays (drain.Scan part why) = ofPart part (scanSays why)
+drainSays why = drainNumber why ∷ drainValues why
+
+-- what is said of a scan's refusal in part i
+abbrev pub ofPart : ℕ → ScanRefusal → List ℕ
+ofPart i why = scanNumber why ∷ i ∷ scanValues why
 
 -- A refused answer, named together with its number and values: wrong ones have no such proof.
 

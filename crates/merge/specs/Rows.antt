@@ -7,7 +7,6 @@ use lib.Dec.{ltb}
 use lib.ListN.{length}
 use lib.Seq.{sets}
 use Rattle.numbers.specs.Pick.{pick}
-use Rattle.frames.specs.Refusals.{scanSays}
 use Rattle.merge.specs.declared.parts.MergeScanner.{MergeScanner}
 use Rattle.merge.specs.declared.heads.MergeEntry.{MergeEntry}
 use Rattle.merge.specs.declared.next.MergeAnswer.{MergeAnswer}
@@ -50,7 +49,7 @@ unfoldable pub rowsSaid : MergeAnswer → Bool → ℕ → RowsAnswer
 rowsSaid (answer.Entry x) fits n = pick fits (rows.Rows n) (refuseRows (3 ∷ []) rows-refusal.NoRoom refl)
 rowsSaid answer.End fits n = rows.End
 rowsSaid (answer.Refused refusal.BadPart) fits n = refuseRows (13 ∷ []) rows-refusal.BadPart refl
-rowsSaid (answer.Refused (refusal.Scan i why)) fits n = refuseRows (ofPart i (scanSays why)) (rows-refusal.Scan i why) refl
+rowsSaid (answer.Refused (refusal.Scan i why)) fits n = refuseRows (ofPart i why) (rows-refusal.Scan i why) refl
 
 -- how many whole rows so many numbers are
 abbrev pub wholeRows : List ℕ → ℕ
@@ -63,6 +62,6 @@ rowedOf m image buf = record {
   answer = rowsSaid (nextOf m image .answer) (ltb 0 (wholeRows buf)) (length (given (wholeRows buf) image m));
 }
 
--- the lent numbers after one pass: the rows from the first on, "every other number as it was"
+-- the lent numbers after one pass: the rows from the first on, and every other number as it was
 unfoldable pub rowedIn : MergeScanner → List ℕ → List ℕ → List ℕ
 rowedIn m image buf = sets buf 0 (rowsOf (given (wholeRows buf) image m))

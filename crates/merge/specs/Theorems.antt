@@ -1,5 +1,5 @@
--- The merge's theorems, stated of the definitions that the contracts cite. Proved in proofs/Theorems.
-use Prim.Native.Nat.{ℕ, suc, _*_, _≤_}
+-- The merge's theorems, stated of the definitions that the contracts cite. All are proved: proofs/Theorems.antt has the record at the end.
+use Prim.Native.Nat.{ℕ, suc, _*_, _<_, _≤_}
 use mathlib.Core.Path.{_≡_}
 use mathlib.Core.List.{List, [], _∷_}
 use mathlib.Core.Bool.{true, false}
@@ -19,7 +19,7 @@ use Rattle.merge.specs.declared.drain.DrainRefusal.the-variants as refus
 use Rattle.merge.specs.Parts.{tableOk, moved, startOf}
 use Rattle.merge.specs.Merge.{scanAt, entryOf, nextOf}
 use Rattle.merge.specs.Rows.{given}
-use Rattle.merge.specs.Drain.{left, drainOf}
+use Rattle.merge.specs.Drain.{left, drainIn, drainOf}
 use Rattle.merge.specs.Sorted.{Sorted}
 
 -- the scan of part i from its position on is not refused, and gives these entries
@@ -69,3 +69,15 @@ MergeBounded = (image : List ℕ) (m : MergeScanner) (k : ℕ) → (4 * length (
 abbrev pub DrainSame : Type 0
 DrainSame = (image key : List ℕ) (handle : ValueHandle) (m : MergeScanner) → drainOf m image key handle .outcome ≡ outcome.Refused refusal.BadPart
     → (tableOk (length image) m ≡ false) × (drainOf m image key handle .state ≡ m)
+
+-- the calls that a drain makes are enough: it ends of itself, and any more calls give the same
+abbrev pub DrainEnough : Type 0
+DrainEnough = (image key : List ℕ) (handle : ValueHandle) (m : MergeScanner) (k : ℕ) → left m < k → drainIn k image key handle m ≡ drainOf m image key handle
+
+pub record Theorems : Type 0 where
+  pub mergeEnds : MergeEnds
+  pub mergeExact : MergeExact
+  pub mergeSorted : MergeSorted
+  pub mergeBounded : MergeBounded
+  pub drainSame : DrainSame
+  pub drainEnough : DrainEnough

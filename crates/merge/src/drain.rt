@@ -21,6 +21,7 @@ ghost use Rattle.merge.specs.Parts.{tableOk};
 ghost use Rattle.merge.specs.Pass.{Pass};
 ghost use Rattle.merge.specs.Drain.{verdictOf, drainOf};
 ghost use Rattle.merge.specs.DrainShape.{overOf, stoppedOf};
+ghost use Rattle.merge.specs.Refusals.{drainNumber};
 
 // What an entry is to the one sought.
 enum Verdict {
@@ -34,6 +35,19 @@ pub enum DrainRefusal {
     BadPart,
     NotMatched,
     Scan { part: usize, why: ScanRefusal },
+}
+
+impl DrainRefusal {
+    // Document 01's number.
+    pub fn number(self) -> u64
+        ensures { λ r. ⌜ r ≡ drainNumber self ⌝ }
+    {
+        match self {
+            DrainRefusal::BadPart => 13,
+            DrainRefusal::NotMatched => 14,
+            DrainRefusal::Scan { part: _, why } => why.number(),
+        }
+    }
 }
 
 pub enum DrainOutcome {

@@ -11,10 +11,23 @@ ghost use mathlib.Core.Path.{_≡_};
 ghost use lib.ListN.{length};
 ghost use Rattle.merge.specs.Merge.{nextOf};
 ghost use Rattle.merge.specs.Parts.{tableOk};
+ghost use Rattle.merge.specs.Refusals.{mergeNumber};
 
 pub enum MergeRefusal {
     BadPart,
     Scan { part: usize, why: ScanRefusal },
+}
+
+impl MergeRefusal {
+    // Document 01's number.
+    pub fn number(self) -> u64
+        ensures { λ r. ⌜ r ≡ mergeNumber self ⌝ }
+    {
+        match self {
+            MergeRefusal::BadPart => 13,
+            MergeRefusal::Scan { part: _, why } => why.number(),
+        }
+    }
 }
 
 pub enum MergeAnswer {

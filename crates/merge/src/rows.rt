@@ -19,11 +19,25 @@ ghost use lib.Seq.{sets};
 ghost use Rattle.merge.specs.Parts.{tableOk};
 ghost use Rattle.merge.specs.Pass.{Pass};
 ghost use Rattle.merge.specs.Rows.{rowOf, rowsOf, given, after, wholeRows, rowedOf, rowedIn};
+ghost use Rattle.merge.specs.Refusals.{rowsNumber};
 
 pub enum RowsRefusal {
     BadPart,
     NoRoom,
     Scan { part: usize, why: ScanRefusal },
+}
+
+impl RowsRefusal {
+    // Document 01's number.
+    pub fn number(self) -> u64
+        ensures { λ r. ⌜ r ≡ rowsNumber self ⌝ }
+    {
+        match self {
+            RowsRefusal::BadPart => 13,
+            RowsRefusal::NoRoom => 3,
+            RowsRefusal::Scan { part: _, why } => why.number(),
+        }
+    }
 }
 
 // How many rows were written; or the end or the refusal that stands before the first.

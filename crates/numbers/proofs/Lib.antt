@@ -1,4 +1,4 @@
 pub mod Reading
 pub mod Decoding
+pub mod Refused
 pub mod Theorems
-pub mod RefusalNumbers

@@ -11,10 +11,11 @@ use lib.Dec.{ltb, leb, lit<}
 use lib.ListN.{length, getD, take, length-append, length-take}
 use lib.Pow.{pow-add, pow-mono}
 use lib.Seq.{take-at}
-use borrow.Author.Tests.{lt-ltb, ltb-true, ltb-false, leb-true, leb-false}
+use borrow.Author.Tests.{lt-ltb, le-ltb, ltb-true, ltb-false, leb-true, leb-false}
 use Rattle.numbers.specs.Pick.{pick}
-use Rattle.numbers.specs.Leb128.{shortest, inGroups, valueOf, carried, number, readIn, groups}
+use Rattle.numbers.specs.Leb128.{shortest, inGroups, valueOf, carried, number, refused, readIn, groups}
 use Rattle.numbers.specs.Leb128Laws.{by-groups, shortest-one, shortest-more, length-one, length-more, length-some, length-most, carried-stop, carried-on, read-at, Found}
+use Rattle.numbers.specs.declared.leb128.NumberRefusal.the-variants.{TooLong}
 
 -- ---- a spelling in n groups
 pub length-groups : (n x : ℕ) → length (inGroups n x) ≡ n
@@ -38,14 +39,25 @@ carried-groups (suc most) (suc n) x rest m h =
     carried-on most (x % 128 + 128) (inGroups (suc n) (x / 128) ++ rest) (omega arith)
     ∙ ap suc (carried-groups most n (x / 128) rest (omega arith) (div-lt-iff-lt-mul (lit< tt) .1 (rw pow-suc at h)))
 
--- it reads as its number, with what follows left
-pub reads-groups : (most limit at n x : ℕ) (rest : List ℕ) → n < most → x < 128 ^ suc n → x < limit → readIn most limit at (inGroups (suc n) x ++ rest) ≡ number x (suc n)
+-- it reads as its number, with what follows left, where that is below the limit
+pub reads-spelling : (most limit at n x : ℕ) (rest : List ℕ) → n < most → x < 128 ^ suc n
+    → readIn most limit at (inGroups (suc n) x ++ rest) ≡ pick (ltb x limit) (number x (suc n)) (refused TooLong)
 unfolding pick
-reads-groups most limit at n x rest m h l =
+reads-spelling most limit at n x rest m h =
     let e : valueOf (take (n + 1) (inGroups (suc n) x ++ rest)) ≡ x = ap valueOf (take-at (inGroups (suc n) x) rest (n + 1) (length-groups (suc n) x ∙ sym (add-one n))) ∙ value-groups n x h in
     let k : n < length (inGroups (suc n) x ++ rest) = omega (arith, length-append (inGroups (suc n) x) rest, length-groups (suc n) x) in
     read-at most limit at n (inGroups (suc n) x ++ rest) (carried-groups most n x rest m h) m
-    ∙ rw (e, lt-ltb n (length (inGroups (suc n) x ++ rest)) k, lt-ltb x limit l, add-one n)
+    ∙ rw (e, lt-ltb n (length (inGroups (suc n) x ++ rest)) k, add-one n)
+
+pub reads-groups : (most limit at n x : ℕ) (rest : List ℕ) → n < most → x < 128 ^ suc n → x < limit
+    → readIn most limit at (inGroups (suc n) x ++ rest) ≡ number x (suc n)
+unfolding pick
+reads-groups most limit at n x rest m h l = reads-spelling most limit at n x rest m h ∙ rw (lt-ltb x limit l)
+
+pub reads-over : (most limit at n x : ℕ) (rest : List ℕ) → n < most → x < 128 ^ suc n → limit ≤ x
+    → readIn most limit at (inGroups (suc n) x ++ rest) ≡ refused TooLong
+unfolding pick
+reads-over most limit at n x rest m h l = reads-spelling most limit at n x rest m h ∙ rw (le-ltb x limit l)
 
 -- ---- the shortest spelling is one
 more-groups : (n x : ℕ) → 1 ≤ n → inGroups (suc n) x ≡ (x % 128 + 128) ∷ inGroups n (x / 128)
@@ -83,7 +95,7 @@ in-width w x p h =
     omega arith
 
 -- ---- what is read is the spelling of its number in so many groups
-value-below : (t : List ℕ) → valueOf t < 128 ^ length t
+pub value-below : (t : List ℕ) → valueOf t < 128 ^ length t
 unfolding valueOf
 value-below [] = lit< tt
 value-below (b ∷ bs) = rw pow-suc (omega (arith, value-below bs))
@@ -94,7 +106,7 @@ found-below most limit t value used f =
     rw (f .is) (rw e at (value-below (take used t)))
 
 -- n groups after x are their number spelt again, and so are those and x
-pub Again : ℕ → List ℕ → Type 0
+unfoldable pub Again : ℕ → List ℕ → Type 0
 Again n t = take (suc n) t ≡ inGroups (suc n) (valueOf (take (suc n) t))
 
 again-one : (x : ℕ) (t : List ℕ) → x < 128 → Again 0 (x ∷ t)
@@ -110,7 +122,7 @@ again-more n x t h l ih =
     let f : (x % 128 + 128 * valueOf (take (suc n) t)) / 128 ≡ valueOf (take (suc n) t) = omega arith in
     rw (e, f) (ap (λ (r : List ℕ). x ∷ r) ih)
 
-again : (most : ℕ) (t : List ℕ) → ((k : ℕ) → getD t k 0 < 256) → carried most t < most → carried most t < length t → Again (carried most t) t
+pub again : (most : ℕ) (t : List ℕ) → ((k : ℕ) → getD t k 0 < 256) → carried most t < most → carried most t < length t → Again (carried most t) t
 again zero t b h l = absurd (omega arith)
 again (suc most) [] b h l = absurd (omega arith)
 again (suc most) (x ∷ t) b h l = go (leb 128 x) refl (again most t (λ k. b (suc k)))

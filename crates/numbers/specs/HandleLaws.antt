@@ -1,4 +1,4 @@
--- Laws of handles and indirections as bytes, for callers to cite.
+-- Laws of handles and indirections as bytes: what the round trips stand on.
 use Prim.Native.Nat.{ℕ, _+_, _≤_}
 use mathlib.Core.Path.{_≡_, refl, ap, _∙_}
 use mathlib.Core.List.{List, _++_}

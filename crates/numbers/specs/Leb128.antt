@@ -1,10 +1,12 @@
 -- Unsigned LEB128 (DWARF 5, section 7.6), and what document 01 ("Handles and garbage") says of reading it, once over the width.
 use Prim.Native.Nat.{ℕ, zero, suc, _+_, _*_, _/_, _%_, _^_}
+use mathlib.Core.Path.{refl}
 use mathlib.Core.List.{List, [], _∷_}
 use lib.Dec.{ltb, leb}
 use lib.ListN.{length, take, drop}
 use Rattle.numbers.specs.Pick.{pick}
-use Rattle.numbers.specs.declared.leb128.NumberRefusal.{NumberRefusal}
+pub use Rattle.numbers.specs.Reading.{Reading, number, refused}
+use Rattle.numbers.specs.Refusals.{refuseRead}
 use Rattle.numbers.specs.declared.leb128.NumberRefusal.the-variants.{CutShort, TooLong}
 use Rattle.numbers.specs.declared.leb128.ReadU64.{ReadU64}
 use Rattle.numbers.specs.declared.leb128.ReadU64.the-variants as u64
@@ -16,7 +18,7 @@ unfoldable pub spellIn : ℕ → ℕ → List ℕ
 spellIn zero x = x ∷ []
 spellIn (suc turns) x = pick (ltb x 128) (x ∷ []) ((x % 128 + 128) ∷ spellIn turns (x / 128))
 
--- "writing is shortest": no group after the last that is not zero (each group lowers x, so x turns are enough)
+-- "Writing is shortest": no group after the last that is not zero (each group lowers x, so x turns are enough)
 unfoldable pub shortest : ℕ → List ℕ
 shortest x = spellIn x x
 
@@ -37,11 +39,6 @@ carried zero s = 0
 carried (suc most) [] = 0
 carried (suc most) (b ∷ bs) = pick (leb 128 b) (suc (carried most bs)) 0
 
--- what reading finds, at any width: the number and the bytes used, or a refusal
-pub data Reading : Type 0 where
-  number : ℕ → ℕ → Reading
-  refused : NumberRefusal → Reading
-
 -- left to right from t's first byte, which stands at `at`. n bytes carry on: the last allowed among them is 10, no byte after them is 7
 -- (where reading began, needed, present), a value at the limit or above is 10
 unfoldable pub readIn : ℕ → ℕ → ℕ → List ℕ → Reading
@@ -49,9 +46,9 @@ readIn most limit at t =
     let n = carried most t in
     pick (ltb n most)
     (pick (ltb n (length t))
-    (pick (ltb (valueOf (take (n + 1) t)) limit) (number (valueOf (take (n + 1) t)) (n + 1)) (refused TooLong))
-    (refused (CutShort (record { at = at; needed = n + 1; present = n }))))
-    (refused TooLong)
+    (pick (ltb (valueOf (take (n + 1) t)) limit) (number (valueOf (take (n + 1) t)) (n + 1)) (refuseRead (10 ∷ []) TooLong refl))
+    (refuseRead (7 ∷ at ∷ (n + 1) ∷ n ∷ []) (CutShort (record { at = at; needed = n + 1; present = n })) refl))
+    (refuseRead (10 ∷ []) TooLong refl)
 
 -- the groups that a width of w bits takes at most: 10 for u64, 5 for u32
 abbrev pub groups : ℕ → ℕ

@@ -1,4 +1,4 @@
--- Laws of unsigned LEB128, for callers to cite.
+-- Laws of unsigned LEB128: what the calls' proofs and the round trips stand on.
 use Prim.Native.Nat.{ℕ, zero, suc, _+_, _/_, _%_, _^_, _≤_, _<_}
 use mathlib.Core.Path.{_≡_, refl, sym, ap, _∙_}
 use mathlib.Core.List.{List, [], _∷_}

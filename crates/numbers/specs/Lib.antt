@@ -2,7 +2,10 @@ pub mod Pick
 pub mod Le
 pub mod LeLaws
 pub mod HalfLaws
+pub mod Part
 pub mod PartLaws
+pub mod Reading
+pub mod Refusals
 pub mod Wrote
 pub mod WroteLaws
 pub mod Leb128
@@ -13,6 +16,5 @@ pub mod HandleLaws
 pub mod RoundTripLaws
 pub mod Wide
 pub mod WideLaws
-pub mod Refusals
 pub mod Marked
 pub mod Theorems

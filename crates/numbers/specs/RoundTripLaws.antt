@@ -1,4 +1,4 @@
--- What is written reads back, and what was read shortest is what is written, for callers to cite.
+-- What is written reads back, and what was read shortest is what is written; a caller's proof cites `indirection-back`.
 use Prim.Native.Nat.{ℕ, zero, suc, _+_, _-_, _^_, _≤_, _<_}
 use mathlib.Core.Path.{_≡_, refl, sym, ap, _∙_}
 use mathlib.Core.List.{List, _++_, append-assoc}

@@ -1,4 +1,4 @@
--- Laws of what a call that writes at a place answers and leaves, for callers to cite.
+-- Laws of what a call that writes at a place answers and leaves: what the calls' proofs and the round trips stand on.
 use Prim.Native.Nat.{ℕ, _-_, _≤_, _<_}
 use mathlib.Core.Path.{_≡_, refl, ap}
 use mathlib.Core.List.{List}

@@ -4,6 +4,7 @@ ghost use Prim.Native.Nat.{_+_, _-_, _≤_, _<_, _^_, min};
 ghost use lib.ListN.{length, getD, take, drop};
 ghost use lib.Seq.{sets};
 ghost use Rattle.numbers.specs.Le.{le, num};
+ghost use Rattle.numbers.specs.Part.{behind};
 use crate::octet::wide;
 
 // How many of n stand from at on; none where at is past them.
@@ -19,24 +20,24 @@ pub fn lesser(a: usize, b: usize) -> usize
     if a <= b { a } else { b }
 }
 
-// What stands from `at` on; nothing where `at` is past the end.
+// What stands from `at` on, where it lies; nothing where `at` is past the end.
 pub fn tail(s: &[u8], at: usize) -> &[u8]
-    ensures { λ r. ⌜ now r ≡ drop at (now (s .entry)) ⌝ }
+    ensures { λ r. ⌜ (now r ≡ drop at (now (s .entry))) × (r .ptr ≡ behind (s .entry .ptr) (min at (length (now (s .entry))))) ⌝ }
 {
     let a = lesser(at, s.len());
     &s[a..]
 }
 
-// The `len` bytes from `at` on, or as many as there are.
+// The `len` bytes from `at` on, or as many as there are, where they lie.
 pub fn part(s: &[u8], at: usize, len: usize) -> &[u8]
-    ensures { λ r. ⌜ now r ≡ take len (drop at (now (s .entry))) ⌝ }
+    ensures { λ r. ⌜ (now r ≡ take len (drop at (now (s .entry)))) × (r .ptr ≡ behind (s .entry .ptr) (min at (length (now (s .entry))))) ⌝ }
 {
     let t = tail(s, at);
     let n = lesser(len, t.len());
     &t[..n]
 }
 
-// All of src into buf from `at`. What would fall past the end is not written.
+// src into buf from `at`, as far as there is room.
 pub fn copy(buf: &mut [u8], at: usize, src: &[u8])
     ensures { λ _. ⌜ now (buf .exit) ≡ sets (now (buf .entry)) at (now (src .entry)) ⌝ }
 {

@@ -1,6 +1,7 @@
 // Unsigned LEB128 (DWARF 5, section 7.6): written shortest, read with padding.
 ghost use mathlib.Core.Path.{_≡_};
 ghost use Prim.Native.Nat.{_+_, _-_, _*_, _≤_, _^_};
+ghost use Rattle.numbers.specs.Refusals.{wroteNumber, readNumber};
 ghost use Rattle.numbers.specs.Wrote.{wroteOf, placed};
 ghost use Rattle.numbers.specs.Leb128.{shortest, readOf, readIn, asU64, asU32};
 use crate::bytes::room;
@@ -18,6 +19,30 @@ pub enum Wrote {
 pub enum NumberRefusal {
     CutShort(CutShort),
     TooLong,
+}
+
+impl Wrote {
+    // Document 01's number; 0 where the bytes were written.
+    pub fn number(self) -> u64
+        ensures { λ r. ⌜ r ≡ wroteNumber self ⌝ }
+    {
+        match self {
+            Wrote::Used(_) => 0,
+            Wrote::NoRoom => 3,
+        }
+    }
+}
+
+impl NumberRefusal {
+    // Document 01's number.
+    pub fn number(self) -> u64
+        ensures { λ r. ⌜ r ≡ readNumber self ⌝ }
+    {
+        match self {
+            NumberRefusal::CutShort(_) => 7,
+            NumberRefusal::TooLong => 10,
+        }
+    }
 }
 
 pub enum ReadU64 {

@@ -1,26 +1,28 @@
--- The batch of the pointers that the rows are, column by column, with its answer as a number.
-use Prim.Native.Nat.{ℕ, min, _/_}
-use mathlib.Core.Path.{_≡_, ap, _∙_}
+-- The batch of the pointers that the rows are, column by column, with its answer as a number; rows that are none leave the map as it was.
+use Prim.Native.Nat.{ℕ}
+use mathlib.Core.Path.{sym, ap, _∙_}
 use mathlib.Core.List.{List}
-use lib.ListN.{length, take}
-use Rattle.numbers.specs.declared.handle.BlobIndirection.{BlobIndirection}
+use native.Mathlib.Omega.{arith}
 use Rattle.garbage.specs.declared.map.FragmentationMap.{FragmentationMap}
-use Rattle.garbage.specs.declared.dropped.Dropped.{Dropped}
 use Rattle.garbage.specs.Batch.{batchOf}
-use Rattle.boundary.specs.Maps.{countedNumber, pointersIn, pointersOf}
+use Rattle.boundary.specs.Maps.{Batched}
+use Rattle.boundary.proofs.Lists.{none-refused, batched-not, batched}
 use borrow.Author.Needs.{needs}
 use Rattle.boundary.proofs.dropped.pd_batch.Statement.{statement}
 use Rattle.boundary.proofs.dropped.pd_batch.Tie as tie
 
--- the list that was filled, and the rows
-all-rows : (m : FragmentationMap) (rows : List ℕ) (n : ℕ) (list : List BlobIndirection) (d : Dropped) → n ≡ min (length rows / 3) 1024 → take n list ≡ pointersIn n rows → d ≡ batchOf m (take n list) → d ≡ batchOf m (pointersOf rows)
-all-rows m rows n list d e f g = g ∙ ap (batchOf m) (f ∙ ap (λ (k : ℕ). pointersIn k rows) e)
+abbrev map-at : ℕ → List ℕ → List ℕ → List ℕ → List ℕ → FragmentationMap
+map-at n i f s d = record { count = n; ids = i; frames = f; stated = s; disk = d }
 
-lesser-requires : tie.Need-lesser-requires
-lesser-requires c κs = search needs
+rows-refused-requires : tie.Need-rows-refused-requires
+rows-refused-requires c κs = search needs
 
 pointers-of-requires : tie.Need-pointers-of-requires
-pointers-of-requires c κs = search needs
+pointers-of-requires c κs =
+    let a : tie.Start = c .before .before .before .before .before .before .before .before in
+    let r = c .before .before .before .before .before .before .rows-refused in
+    let g = none-refused (a .args .rows .now) (sym (r .ensures) ∙ c .before .before .before .before .before .if1 .taken) in
+    (g .0, omega arith, g .1)
 
 drop-listed-requires : tie.Need-drop-listed-requires
 drop-listed-requires c κs = search needs
@@ -30,13 +32,30 @@ counted-number-requires c κs = search needs
 
 returns : tie.Need-returns
 returns c =
-    let a : tie.Start = c .before .before .before .before .before .before .before .before .before .before .before .before .before .before .before in
-    let m : FragmentationMap = record { count = a .args .count .now; ids = a .args .ids .now; frames = a .args .frames .now; stated = a .args .stated .now; disk = a .args .disk .now } in
+    let a : tie.Start = c .before .before .before .before .before .before .before .before .before .before .before .before .before .before .before .before in
+    let m = map-at (a .args .count .now) (a .args .ids .now) (a .args .frames .now) (a .args .stated .now) (a .args .disk .now) in
     let d = c .before .before .before .before .before .before .drop-listed in
     let p = c .before .before .before .before .before .before .before .pointers-of in
-    let n = c .before .before .before .before .before .before .before .before .lesser in
-    let e = all-rows m (a .args .rows .now) (n .result) (p .result) (d .result) (n .ensures) (p .ensures) (d .ensures) in
-    (c .counted-number .ensures ∙ ap (λ (x : Dropped). countedNumber (x .answer)) e, ap (λ (x : Dropped). x .map) e)
+    let r = c .before .before .before .before .before .before .before .before .before .before .before .before .before .before .rows-refused in
+    let w = c .before .before .before .before .before .before .before .before .before .before .before .before .before .if1 .taken in
+    let e = batched (a .args .rows .now) m (r .result) (r .ensures) w (d .result) (d .ensures ∙ ap (batchOf m) (p .ensures)) in
+    (c .counted-number .ensures ∙ ap (λ (x : Batched). x .number) (sym e), ap (λ (x : Batched). x .map) (sym e))
+
+returns-2 : tie.Need-returns-2
+returns-2 c =
+    let a : tie.Start = c .before .before .before in
+    let m = map-at (a .args .count .now) (a .args .ids .now) (a .args .frames .now) (a .args .stated .now) (a .args .disk .now) in
+    let r = c .before .rows-refused in
+    let e = batched-not (a .args .rows .now) m (r .result) (r .ensures) (c .if1 .left) in
+    (ap (λ (x : Batched). x .number) (sym e), ap (λ (x : Batched). x .map) (sym e))
 
 pub pd-batch-spec : {M : Type 1} → statement M
-pd-batch-spec = tie.close (tie.spec lesser-requires pointers-of-requires drop-listed-requires counted-number-requires returns)
+pd-batch-spec =
+    tie.close
+    (tie.spec
+    rows-refused-requires
+    pointers-of-requires
+    drop-listed-requires
+    counted-number-requires
+    returns
+    returns-2)

@@ -8,6 +8,7 @@ use native.Mathlib.Omega.{arith}
 use native.Mathlib.Numerals.{add-one}
 use Rattle.numbers.specs.declared.handle.BlobIndirection.{BlobIndirection}
 use Rattle.boundary.specs.Maps.{pointerAt, pointersIn}
+use Rattle.boundary.proofs.Lists.{narrow-at}
 use Rattle.boundary.proofs.dropped.pointers_of.Statement.{statement}
 use Rattle.boundary.proofs.dropped.pointers_of.Tie as tie
 
@@ -33,7 +34,10 @@ loop-holds : tie.Need-loop-holds Inv-loop μ-loop
 loop-holds c = (omega arith, refl, none (c .before .args .rows .now))
 
 pointer-at-requires : tie.Need-pointer-at-requires Inv-loop μ-loop
-pointer-at-requires c κs = omega arith
+pointer-at-requires c κs =
+    let s = c .before .before .before in
+    let l = c .before .loop in
+    (omega arith, narrow-at (s .args .rows .now) (s .args .n) (l .i) (s .pre .2) (c .loop-test .taken))
 
 mul-list : tie.Need-mul-list Inv-loop μ-loop
 mul-list c = omega arith

@@ -5,7 +5,7 @@ use denote.Ref.{now}
 use Rattle.merge.specs.Rows.{rowedOf, rowedIn}
 use Rattle.merge.specs.declared.parts.Part.{Part}
 use Rattle.merge.specs.declared.rows.Rowed.{Rowed}
-use Rattle.boundary.specs.Tables.{atsOf, rowsNumber}
+use Rattle.boundary.specs.Tables.{atsOf, rowedNumber}
 use borrow.Author.Needs.{needs}
 use Rattle.boundary.proofs.merged.pd_rows.Statement.{statement}
 use Rattle.boundary.proofs.merged.pd_rows.Tie as tie
@@ -32,7 +32,7 @@ returns c =
     let r = c .before .before .before .before .before .before .next-rows .ensures in
     let e = r .0 ∙ ap (λ (ps : List Part). rowedOf (record { count = s .count; parts = ps }) (now (s .image)) (now (s .rows))) p in
     let f = r .1 ∙ ap (λ (ps : List Part). rowedIn (record { count = s .count; parts = ps }) (now (s .image)) (now (s .rows))) p in
-    (c .number-of .ensures ∙ ap (λ (x : Rowed). rowsNumber (x .answer)) e, c .before .ats-of .ensures ∙ ap (λ (x : Rowed). atsOf (x .state .parts)) e, f)
+    (c .number-of .ensures ∙ ap (λ (x : Rowed). rowedNumber (x .answer)) e, c .before .ats-of .ensures ∙ ap (λ (x : Rowed). atsOf (x .state .parts)) e, f)
 
 pub pd-rows-spec : {M : Type 1} → statement M
 pd-rows-spec =

@@ -42,8 +42,7 @@ use denote.Struct.Laws as LL
 use Rattle.frames.specs.declared.reader.Told.{Told}
 use Rattle.frames.proofs.reader.Told as T
 use Rattle.frames.proofs.reader.Told.Laws as T′
-use mir.Syntax.{named}
-use Rattle.frames.specs.Point.{partOf, toldOf}
+use Rattle.frames.specs.Point.{toldOf, shown, valueIn}
 use Rattle.numbers.specs.declared.handle.ValueHandle.{ValueHandle}
 use Rattle.numbers.proofs.handle.ValueHandle as Hd
 use Rattle.numbers.proofs.handle.ValueHandle.Laws as Hd′
@@ -125,16 +124,18 @@ module _ {M : Type 1} (𝓤 : URA M) (H : Heap 𝓤) (A : Atoms 𝓤) (W : Given
   ask-value : (t : Told) (m : Val) → ent 𝓤 (onEntry 𝓤 H A value.signature (κ, tt) (q, tt) (s, (t, tt)) (v ∷ [], (m ∷ [], tt))) (Value 𝓤 H A at-mem run .pre (to-value t m))
   ask-value t m = qed W ((‵ (flft κ q) ⊛ ‵ ftrue) ∷ ‵ (owns (Sl ∷ T.the-row ∷ []) (s, (t, tt)) (v ∷ [], (m ∷ [], tt))) ∷ []) ∵ join ! $ frame ! $ done !
 
-  value-said : (t : Told) (r : RefT (List ℕ)) → ent 𝓤 (ensured 𝓤 H A value.ended (value.clauses 𝓤 H A at-mem run) (κ, tt) (s, (t, tt)) tt r) (fact 𝓤 (now r ≡ partOf (now s) t))
-  value-said t r = exE 𝓤 _ (λ ws. snd∗ 𝓤 (sem 𝓤 H A (lasts value.ended (κ, tt) (s, (t, tt)) ws)) (fact 𝓤 (now r ≡ partOf (now s) t)))
+  value-said : (t : Told) (r : RefT (List ℕ))
+      → ent 𝓤 (ensured 𝓤 H A value.ended (value.clauses 𝓤 H A at-mem run) (κ, tt) (s, (t, tt)) tt r) (fact 𝓤 (shown r ≡ valueIn s t))
+  value-said t r = exE 𝓤 _ (λ ws. snd∗ 𝓤 (sem 𝓤 H A (lasts value.ended (κ, tt) (s, (t, tt)) ws)) (fact 𝓤 (shown r ≡ valueIn s t)))
 
   abbrev Left : RefT (List ℕ) → Val → Told → SProp 𝓤
   Left r u t = ⋆ 𝓤 H A (‵ (Sl .own r (u ∷ [])) ∷ (‵ (flft κ q) ⊛ ‵ ftrue) ∷ (‵ (flft κᵇ qᵇ) ⊛ ‵ ftrue) ∷ ‵ (fobs γ (T.the-row .coded .code t)) ∷ ‵ (fbor κ′ (Body (mem T.the-row) b o γ)) ∷ ‵ (flft κ′ q′) ∷ ‵ Key ∷ ‵ Own ∷ [])
 
-  exits : Is Hd.the-row hd (hm ∷ []) → (t : Told) → t ≡ found → (r : RefT (List ℕ)) (u : Val) → now r ≡ partOf (now s) t → ent 𝓤 (Left r u t) (Post u)
+  exits : Is Hd.the-row hd (hm ∷ []) → (t : Told) → t ≡ found → (r : RefT (List ℕ)) (u : Val) → shown r ≡ valueIn s t → ent 𝓤 (Left r u t) (Post u)
   exits gh t e r u f =
       qed W (‵ (Sl .own r (u ∷ [])) ∷ (‵ (flft κ q) ⊛ ‵ ftrue) ∷ (‵ (flft κᵇ qᵇ) ⊛ ‵ ftrue) ∷ ‵ (fobs γ (T.the-row .coded .code t)) ∷ ‵ (fbor κ′ (Body (mem T.the-row) b o γ)) ∷ ‵ (flft κ′ q′) ∷ ‵ Key ∷ ‵ Own ∷ []) ∵
-      suffices ! _ (ends-at 𝓤 H A read.ended stayed (read.clauses 𝓤 H A at-mem run) W ((κs, (q, (qᵇ, (q′, tt))), tt, x, at), tt) u r (tt, (tt, (tt, (t, tt)))) (tt, (tt, (tt, (tt, tt))))) $ says ! (f ∙ ap (partOf (now s)) e, e) $
+      suffices ! _ (ends-at 𝓤 H A read.ended stayed (read.clauses 𝓤 H A at-mem run) W ((κs, (q, (qᵇ, (q′, tt))), tt, x, at), tt) u r
+      (tt, (tt, (tt, (t, tt)))) (tt, (tt, (tt, (tt, tt))))) $ says ! (f ∙ ap (valueIn s) e, e) $
       move ! (1 ∷ []) $ split ! $ move ! (3 ∷ []) $ split ! $ move ! (7 ∷ 1 ∷ []) $ join ! $ move ! (1 ∷ 0 ∷ []) $ join ! $ move ! (1 ∷ 0 ∷ []) $ join ! $ frame ! $ drop ! $
       -- [the result; obs; the borrow; what k owns; what s owns]
       feqI ! (List Val) (vptr b o ∷ []) (vptr b o ∷ []) refl $ move ! (0 ∷ 2 ∷ 3 ∷ []) $ fjoin3 ! $ nothing ! $ move ! (1 ∷ 0 ∷ []) $ fjoin ! $
@@ -170,7 +171,8 @@ module _ {M : Type 1} (𝓤 : URA M) (H : Heap 𝓤) (A : Atoms 𝓤) (W : Given
         -- [what value asks; key's token; obs; the borrow; told's token; k; s; _5; …; _4; …; _3; …; _2; …; _1; …; room for _0; …; true]
         calls-at ! fm (Value 𝓤 H A at-mem run) known-value (to-value t m) (and-then ! (load ! (from ! (stop !)) (look ! 15 refl)) (and-then ! (load ! (from ! (stop !)) (look ! 7 refl)) (no-more !))) (λ u.
         use1 W (later (some (λ (r : RefT (List ℕ)). ((‵ (flft κ q) ⊛ ‵ ftrue) ⊛ ‵ (Sl .own r (u ∷ []))) ⊛ raw (ensured 𝓤 H A value.ended (value.clauses 𝓤 H A at-mem run) (κ, tt) (s, (t, tt)) tt r)))) (id⊢ 𝓤 _) $ await ! tt $ pick ! (λ r.
-        split ! $ move ! (1 ∷ []) $ use1 W (raw (fact 𝓤 (now r ≡ partOf (now s) t))) (value-said t r) $ heard ! (now r ≡ partOf (now s) t) (λ f. split ! $ move ! (1 ∷ []) $
+        split ! $ move ! (1 ∷ []) $ use1 W (raw (fact 𝓤 (shown r ≡ valueIn s t))) (value-said t r) $
+        heard ! (shown r ≡ valueIn s t) (λ f. split ! $ move ! (1 ∷ []) $
         -- [the result; file's token; key's token; obs; the borrow; told's token; k; s; _5; …; _0; …; true]
         peeks ! Sl (Is Sl) (shows 𝓤 H A Sl) r (u ∷ []) (λ is.
         land ! (from ! (stop !)) (init ! 18 refl (shr-slice-lawful 𝓤 H A W (named 0) κ u8 .typed r (u ∷ []) is .0)) $

@@ -1,3 +1,4 @@
+-- A byte that is there is read; past the end a list gives what it is asked to.
 use mathlib.Core.Path.{sym}
 use Prim.Native.Nat.{_+_}
 use denote.Ref.{now}

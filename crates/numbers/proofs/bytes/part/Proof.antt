@@ -1,3 +1,4 @@
+-- The front of what stands from `at` on.
 use mathlib.Core.Path.{sym}
 use lib.Seq.{length-take-le}
 use Rattle.numbers.specs.PartLaws.{front}
@@ -15,7 +16,7 @@ slice-aggregate-result : tie.Need-slice-aggregate-result
 slice-aggregate-result c = sym (length-take-le _ _ (search needs))
 
 returns : tie.Need-returns
-returns c = search (needs, front)
+returns c = (search (needs, front), search needs)
 
 pub part-spec : {M : Type 1} → statement M
 part-spec = tie.close (tie.spec tail-requires lesser-requires slice-aggregate-result returns)

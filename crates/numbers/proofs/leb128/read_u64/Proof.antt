@@ -13,7 +13,7 @@ read-requires : tie.Need-read-requires
 read-requires c κs = search needs
 
 returns : tie.Need-returns
-returns c = c .read .ensures ∙ ap (λ t. asU64 (readIn 10 (2 ^ 64) (c .before .before .before .args .at) t)) (c .before .tail .ensures)
+returns c = c .read .ensures ∙ ap (λ t. asU64 (readIn 10 (2 ^ 64) (c .before .before .before .args .at) t)) (c .before .tail .ensures .0)
 
 pub read-u64-spec : {M : Type 1} → statement M
 read-u64-spec = tie.close (tie.spec tail-requires read-requires returns)

@@ -6,7 +6,10 @@ use Rattle.frames.proofs.writer.Writer.next_file.Statement.{statement}
 use Rattle.frames.proofs.writer.Writer.next_file.Tie as tie
 
 returns : tie.Need-returns
-returns c = sym (next-last _ (search needs) (search needs))
+returns c = sym (next-early _ (search needs))
+
+returns-2 : tie.Need-returns-2
+returns-2 c = sym (next-last _ (search needs) (search needs))
 
 add-new : tie.Need-add-new
 add-new c = search needs
@@ -17,12 +20,9 @@ new-requires c κs = search needs
 use-target-size-requires : tie.Need-use-target-size-requires
 use-target-size-requires c κs = search needs
 
-returns-2 : tie.Need-returns-2
-returns-2 c = sym (search (needs, next-done))
-
 returns-3 : tie.Need-returns-3
-returns-3 c = sym (next-early _ (search needs))
+returns-3 c = sym (search (needs, next-done))
 
 pub next-file-spec : {M : Type 1} → statement M
 next-file-spec =
-    tie.close (tie.spec returns add-new new-requires use-target-size-requires returns-2 returns-3)
+    tie.close (tie.spec returns returns-2 add-new new-requires use-target-size-requires returns-3)

@@ -5,12 +5,14 @@ use mathlib.Core.List.{List}
 use Prim.Native.Nat.{ℕ}
 use Rattle.numbers.specs.Pick.{pick}
 use Rattle.numbers.specs.Handle.{indirectionOf}
+use Rattle.numbers.specs.declared.leb128.NumberRefusal.{NumberRefusal}
+use Rattle.numbers.specs.declared.leb128.NumberRefusal.the-variants as number
 use Rattle.numbers.specs.declared.handle.ReadIndirection.{ReadIndirection}
 use Rattle.numbers.specs.declared.handle.ReadIndirection.the-variants.{Refused, Indirection}
 use Rattle.garbage.specs.declared.map.FragmentationMap.{FragmentationMap}
 use Rattle.garbage.specs.declared.map.CountRefusal.the-variants.{MapFull}
 use Rattle.garbage.specs.declared.dropped.Dropped.{Dropped}
-use Rattle.garbage.specs.declared.record.RecordRefusal.the-variants.{Count}
+use Rattle.garbage.specs.declared.record.RecordRefusal.the-variants.{Number, Count}
 use Rattle.garbage.specs.declared.record.RecordAnswer.the-variants as answer
 use Rattle.garbage.specs.declared.record.RecordDropped.{RecordDropped}
 use Rattle.garbage.specs.Maps.{wellFormed}
@@ -33,6 +35,10 @@ module _ (m : FragmentationMap) (b : Bool) (s : List ℕ) where
     unfolding pick
     marked q r v e p = ap (decoded m) (sym e ∙ p) ∙ sym (rw (h, q))
 
+unread : (m : FragmentationMap) (why : NumberRefusal) → record { answer = answer.Refused (Number why); map = m } ≡ decoded m (Refused why)
+unread m (number.CutShort cut) = refl
+unread m number.TooLong = refl
+
 well-formed-requires : tie.Need-well-formed-requires
 well-formed-requires c κs = search needs
 
@@ -54,7 +60,11 @@ told-requires c κs = search needs
 returns : tie.Need-returns
 returns c =
     let a : tie.Start = c .before .before .before .before .before .before .before .before in
-    marked (a .args .self) (a .args .marked) (a .args .encoded .now) (sym (c .before .before .before .before .before .before .well-formed .ensures) ∙ c .before .before .before .before .before .if1 .taken) (c .before .before .before .before .if2 .taken) (c .before .before .before .decode .result) _ (c .before .r .given .1) (c .before .before .before .decode .ensures)
+    let b = c .before .before .before in
+    unread (a .args .self) _
+    ∙ marked (a .args .self) (a .args .marked) (a .args .encoded .now)
+    (sym (b .before .before .before .well-formed .ensures) ∙ b .before .before .if1 .taken) (b .before .if2 .taken)
+    (b .decode .result) _ (c .before .r .given .1) (b .decode .ensures)
 
 returns-2 : tie.Need-returns-2
 returns-2 c =

@@ -8,23 +8,24 @@ use borrow.Author.Tests.{lt-ltb, le-ltb}
 use Rattle.numbers.specs.Pick.{pick}
 use Rattle.numbers.specs.Le.{num}
 use Rattle.garbage.specs.declared.stored.LoadRefusal.the-variants.{CutShort, MapFull}
+use Rattle.garbage.specs.declared.stored.LoadAnswer.the-variants.{Refused}
 use Rattle.garbage.specs.declared.stored.Loaded.{Loaded}
 use Rattle.garbage.specs.Stored.{noneLoaded, someLoaded, loadOf}
 use borrow.Author.Needs.{needs}
 use Rattle.garbage.proofs.map.FragmentationMap.load.Statement.{statement}
 use Rattle.garbage.proofs.map.FragmentationMap.load.Tie as tie
 
-no-count : (s : List ℕ) → length s < 4 → noneLoaded (CutShort (record { at = 0; needed = 4; present = length s })) ≡ loadOf s
+no-count : (s : List ℕ) → length s < 4 → noneLoaded (Refused (CutShort (record { at = 0; needed = 4; present = length s }))) ≡ loadOf s
 unfolding loadOf pick
 no-count s h = sym (rw (lt-ltb (length s) 4 h))
 
 module _ (s : List ℕ) (k : ℕ) (e : k ≡ num 4 s) (h : 4 ≤ length s) where
-  too-many : 64 < k → noneLoaded MapFull ≡ loadOf s
+  too-many : 64 < k → noneLoaded (Refused MapFull) ≡ loadOf s
   unfolding loadOf pick
   too-many q = sym (rw (le-ltb (length s) 4 h, ← e, lt-ltb 64 k q))
 
   module _ (q : k ≤ 64) where
-    too-short : length s - 4 < 28 * k → noneLoaded (CutShort (record { at = 4; needed = 28 * k; present = length s - 4 })) ≡ loadOf s
+    too-short : length s - 4 < 28 * k → noneLoaded (Refused (CutShort (record { at = 4; needed = 28 * k; present = length s - 4 }))) ≡ loadOf s
     unfolding loadOf pick
     too-short r = sym (rw (le-ltb (length s) 4 h, ← e, le-ltb 64 k q, lt-ltb (length s - 4) (28 * k) r))
 
