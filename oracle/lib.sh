@@ -1,4 +1,5 @@
-# Shared by the scripts here and in bench/: where things are, and plain words for what is missing. Exit 3 says that something is.
+# Shared by the scripts here and in bench/: where things are, and plain words for what is missing or fails. Exit 3: something is not on this
+# machine. Exit 1: all that is needed is here, and it does not work.
 here=$(cd "$(dirname "$0")" && pwd)
 top=$(dirname "$here")
 made=${ORACLE_TARGET:-$top/target/oracle}
@@ -9,6 +10,21 @@ export DEBIAN_FRONTEND=noninteractive
 missing() {
     echo "${here##*/}: $*" >&2
     exit 3
+}
+
+failed() {
+    echo "${here##*/}: $*" >&2
+    exit 1
+}
+
+usage() {
+    echo "usage: $*" >&2
+    exit 2
+}
+
+# number WORD: whether it is a number, in decimal
+number() {
+    case $1 in '' | *[!0-9]*) return 1 ;; esac
 }
 
 # package FILE-PATTERN DEBIAN-PACKAGE: the pattern has a match, else the package is installed (--install, as root) or named
@@ -37,11 +53,20 @@ originals() {
     export ORIGINALS
 }
 
-# build: the workspace, from the originals' folder
+# build: the workspace, from the originals' folder; from a copy, so that cargo writes nothing beside the sources
 build() {
     originals
-    (cd "$here" && CARGO_TARGET_DIR=$made cargo build --release --offline --quiet) ||
-        missing "the comparison could not be built (above: why)"
+    rm -rf "$made/copy"
+    mkdir -p "$made/copy" || failed "$made can't be written"
+    (cd "$here" && cp -Rp Cargo.toml .cargo original judge stand-ins "$made/copy/" &&
+        cd "$made/copy" && CARGO_TARGET_DIR=$made cargo build --release --offline --quiet) ||
+        failed "the comparison could not be built (above: why)"
+}
+
+# python: an interpreter and libxxhash, for the scripts in it
+python() {
+    command -v python3 >/dev/null || missing "python3 is not here"
+    package "/usr/lib/*/libxxhash.so.0" libxxhash0
 }
 
 # archive: the proved library for C and Rust; BOUNDARY names another one in its place
@@ -50,7 +75,7 @@ archive() {
         command -v rt >/dev/null || missing "no rt is here: the Rattle kit's bin/ must be in PATH"
         mkdir -p "$made"
         (cd "$top" && rt staticlib boundary) >"$made/boundary.log" 2>&1 ||
-            missing "the archive of crates/boundary was not proved (see $made/boundary.log)"
+            failed "the archive of crates/boundary was not proved (see $made/boundary.log)"
         BOUNDARY=$top/target/staticlib/libboundary.a
     fi
     [ -f "$BOUNDARY" ] || missing "there is no archive at $BOUNDARY"

@@ -9,10 +9,8 @@ fn main() {
     println!("cargo:rerun-if-env-changed=ORIGINALS");
     let here = PathBuf::from(env::var("CARGO_MANIFEST_DIR").unwrap());
     let out = PathBuf::from(env::var("OUT_DIR").unwrap());
-    let from = match env::var("ORIGINALS") {
-        Ok(folder) => PathBuf::from(folder),
-        Err(_) => here.join("../../../shared/docs/src"),
-    };
+    let from =
+        PathBuf::from(env::var("ORIGINALS").expect("ORIGINALS names the folder that has the crate's src/"));
     let list = here.join("known.sha256");
     watch(&list);
     for line in fs::read_to_string(&list).unwrap().lines() {

@@ -1,5 +1,4 @@
 // The steps of G that count drops: one record, a batch of pointers, a map merged into another.
-use crate::groups::number_of;
 use crate::input::bounded;
 use crate::input::field;
 use crate::maps::Step;
@@ -11,11 +10,9 @@ use crate::output::text;
 use crate::pointers::pointer;
 use crate::run::Run;
 use garbage::batch::drop_listed;
-use garbage::map::CountRefusal;
 use garbage::map::Counted;
 use garbage::map::FragmentationMap;
 use garbage::record::RecordAnswer;
-use garbage::record::RecordRefusal;
 use numbers::bytes::lesser;
 use numbers::bytes::part;
 use numbers::handle::BlobIndirection;
@@ -25,31 +22,17 @@ pub fn ok(out: &mut [u8], run: Run) -> Run {
     text(out, run, b"ok\n")
 }
 
-pub fn count_number(why: CountRefusal) -> u64 {
-    match why {
-        CountRefusal::MapFull => 11,
-        CountRefusal::SumTooBig => 12,
-    }
-}
-
 fn counted(out: &mut [u8], run: Run, a: Counted) -> Run {
     match a {
         Counted::Done => ok(out, run),
-        Counted::Refused(why) => refused(out, run, count_number(why)),
-    }
-}
-
-fn record_number(why: RecordRefusal) -> u64 {
-    match why {
-        RecordRefusal::Number(why) => number_of(why),
-        RecordRefusal::Count(why) => count_number(why),
+        Counted::Refused(why) => refused(out, run, why.number()),
     }
 }
 
 fn record_line(out: &mut [u8], run: Run, a: RecordAnswer) -> Run {
     match a {
         RecordAnswer::Done => ok(out, run),
-        RecordAnswer::Refused(why) => refused(out, run, record_number(why)),
+        RecordAnswer::Refused(why) => refused(out, run, why.number()),
     }
 }
 
@@ -110,7 +93,7 @@ struct Tally {
 fn counted_number(a: Counted) -> u64 {
     match a {
         Counted::Done => 0,
-        Counted::Refused(why) => count_number(why),
+        Counted::Refused(why) => why.number(),
     }
 }
 
@@ -120,7 +103,7 @@ fn number_before(map: FragmentationMap) -> u64 {
     let a = d.answer;
     match a {
         RecordAnswer::Done => 0,
-        RecordAnswer::Refused(why) => record_number(why),
+        RecordAnswer::Refused(why) => why.number(),
     }
 }
 

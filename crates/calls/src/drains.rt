@@ -20,8 +20,8 @@ use numbers::handle::ValueHandle;
 
 fn refused_as(out: &mut [u8], run: Run, why: DrainRefusal) -> Run {
     match why {
-        DrainRefusal::BadPart => refused(out, run, 13),
-        DrainRefusal::NotMatched => refused(out, run, 14),
+        DrainRefusal::BadPart => refused(out, run, why.number()),
+        DrainRefusal::NotMatched => refused(out, run, why.number()),
         DrainRefusal::Scan { part, why } => refusal(out, run, why, part as u64),
     }
 }

@@ -10,7 +10,6 @@ use crate::output::text;
 use crate::output::whole;
 use crate::run::Run;
 use numbers::bytes::part;
-use numbers::leb128::NumberRefusal;
 use numbers::leb128::ReadU32;
 use numbers::leb128::ReadU64;
 use numbers::leb128::Wrote;
@@ -22,14 +21,7 @@ use numbers::leb128::write_u64;
 pub fn wrote(out: &mut [u8], run: Run, w: Wrote) -> Run {
     match w {
         Wrote::Used(used) => line(out, run, b"used", used as u64),
-        Wrote::NoRoom => refused(out, run, 3),
-    }
-}
-
-pub fn number_of(why: NumberRefusal) -> u64 {
-    match why {
-        NumberRefusal::CutShort(_) => 7,
-        NumberRefusal::TooLong => 10,
+        Wrote::NoRoom => refused(out, run, w.number()),
     }
 }
 
@@ -84,14 +76,14 @@ fn found(out: &mut [u8], run: Run, value: u64, used: usize) -> Run {
 fn short(out: &mut [u8], run: Run, bytes: &[u8]) -> Run {
     match read_u32(bytes, 0) {
         ReadU32::Number { value, used } => found(out, run, value as u64, used),
-        ReadU32::Refused(why) => refused(out, run, number_of(why)),
+        ReadU32::Refused(why) => refused(out, run, why.number()),
     }
 }
 
 fn long(out: &mut [u8], run: Run, bytes: &[u8]) -> Run {
     match read_u64(bytes, 0) {
         ReadU64::Number { value, used } => found(out, run, value, used),
-        ReadU64::Refused(why) => refused(out, run, number_of(why)),
+        ReadU64::Refused(why) => refused(out, run, why.number()),
     }
 }
 

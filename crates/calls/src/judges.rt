@@ -1,5 +1,4 @@
 // The steps of G that judge: the sum of a map's bytes, dead, and stale.
-use crate::counts::count_number;
 use crate::floats::of_bits;
 use crate::floats::pattern;
 use crate::input::number;
@@ -21,7 +20,7 @@ use garbage::verdict::is_stale;
 pub fn sum(out: &mut [u8], run: Run, map: FragmentationMap) -> Run {
     match map.stale_bytes() {
         StaleBytes::Sum(total) => line(out, run, b"sum", total),
-        StaleBytes::Refused(why) => refused(out, run, count_number(why)),
+        StaleBytes::Refused(why) => refused(out, run, why.number()),
     }
 }
 
@@ -58,7 +57,7 @@ fn dead_line(out: &mut [u8], run: Run, v: DeadVerdict) -> Run {
         DeadVerdict::Dead => text(out, run, b"dead\n"),
         DeadVerdict::Wanted => text(out, run, b"wanted\n"),
         DeadVerdict::NoEntry => text(out, run, b"none\n"),
-        DeadVerdict::Refused => refused(out, run, 11),
+        DeadVerdict::Refused => refused(out, run, v.number()),
     }
 }
 
@@ -83,7 +82,7 @@ fn stale_line(out: &mut [u8], run: Run, v: StaleVerdict) -> Run {
         StaleVerdict::Stale(x) => ratio(out, run, b"stale", x),
         StaleVerdict::Kept(x) => ratio(out, run, b"kept", x),
         StaleVerdict::NoEntry => text(out, run, b"none\n"),
-        StaleVerdict::Refused => refused(out, run, 11),
+        StaleVerdict::Refused => refused(out, run, v.number()),
     }
 }
 

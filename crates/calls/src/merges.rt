@@ -123,7 +123,7 @@ fn entry(out: &mut [u8], run: Run, image: &[u8], e: MergeEntry) -> Run {
 
 fn refused_as(out: &mut [u8], run: Run, why: MergeRefusal) -> Run {
     match why {
-        MergeRefusal::BadPart => refused(out, run, 13),
+        MergeRefusal::BadPart => refused(out, run, why.number()),
         MergeRefusal::Scan { part, why } => refusal(out, run, why, part as u64),
     }
 }

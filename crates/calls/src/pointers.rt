@@ -1,5 +1,4 @@
 // The letters I and i: an indirection written and read.
-use crate::groups::number_of;
 use crate::groups::wrote;
 use crate::input::bounded;
 use crate::input::field;
@@ -96,6 +95,6 @@ pub fn read(batch: &[u8], out: &mut [u8], run: Run) -> Run {
     }
     match BlobIndirection::decode(part(batch, f.at, f.len), 0) {
         ReadIndirection::Indirection { indirection, used } => found(out, run, indirection, used),
-        ReadIndirection::Refused(why) => refused(out, run, number_of(why)),
+        ReadIndirection::Refused(why) => refused(out, run, why.number()),
     }
 }

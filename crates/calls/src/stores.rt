@@ -13,22 +13,14 @@ use crate::run::Run;
 use garbage::map::FragmentationMap;
 use garbage::pruned::PruneAnswer;
 use garbage::stored::LoadAnswer;
-use garbage::stored::LoadRefusal;
 use garbage::stored::StoreRefusal;
 use garbage::stored::Stored;
 use numbers::bytes::part;
 
-fn store_number(why: StoreRefusal) -> u64 {
-    match why {
-        StoreRefusal::MapFull => 11,
-        StoreRefusal::NoRoom => 3,
-    }
-}
-
 fn line_of(out: &mut [u8], run: Run, a: Stored) -> Run {
     match a {
         Stored::Used(used) => line(out, run, b"used", used as u64),
-        Stored::Refused(why) => refused(out, run, store_number(why)),
+        Stored::Refused(why) => refused(out, run, why.number()),
     }
 }
 
@@ -55,13 +47,6 @@ pub fn stored(batch: &[u8], out: &mut [u8], run: Run, map: FragmentationMap) -> 
     shown(out, run, map, n.value as usize)
 }
 
-fn load_number(why: LoadRefusal) -> u64 {
-    match why {
-        LoadRefusal::CutShort(_) => 7,
-        LoadRefusal::MapFull => 11,
-    }
-}
-
 // The map that was read; refused, the one that was there.
 fn load(out: &mut [u8], step: Step, bytes: &[u8]) -> Step {
     let l = FragmentationMap::load(bytes);
@@ -73,7 +58,7 @@ fn load(out: &mut [u8], step: Step, bytes: &[u8]) -> Step {
             kept(step, l.map, run)
         }
         LoadAnswer::Refused(why) => {
-            let run = refused(out, run, load_number(why));
+            let run = refused(out, run, why.number());
             kept(step, step.map, run)
         }
     }
@@ -111,7 +96,7 @@ fn listing(batch: &[u8], run: Run, count: u64) -> Ids {
 fn prune_line(out: &mut [u8], run: Run, a: PruneAnswer) -> Run {
     match a {
         PruneAnswer::Done => ok(out, run),
-        PruneAnswer::MapFull => refused(out, run, 11),
+        PruneAnswer::MapFull => refused(out, run, a.number()),
     }
 }
 

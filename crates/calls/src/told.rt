@@ -156,7 +156,7 @@ pub fn entry(e: MergeEntry) -> [u64; 10] {
 
 fn merge_refusal(why: MergeRefusal) -> [u64; 10] {
     match why {
-        MergeRefusal::BadPart => bare(13),
+        MergeRefusal::BadPart => bare(why.number()),
         MergeRefusal::Scan { part, why } => refusal(part as u64, why),
     }
 }
@@ -171,8 +171,8 @@ pub fn merged(a: MergeAnswer) -> [u64; 10] {
 
 fn rows_refusal(why: RowsRefusal) -> [u64; 10] {
     match why {
-        RowsRefusal::BadPart => bare(13),
-        RowsRefusal::NoRoom => bare(3),
+        RowsRefusal::BadPart => bare(why.number()),
+        RowsRefusal::NoRoom => bare(why.number()),
         RowsRefusal::Scan { part, why } => refusal(part as u64, why),
     }
 }

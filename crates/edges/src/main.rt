@@ -1,17 +1,13 @@
-// Document 01's edges and slips, run: a heading for each paragraph, a line for each case.
-mod dropping;
-mod merging;
-mod numbering;
-mod reading;
+// Document 01's edges that no record of the calls program can hold, run: a heading for each paragraph, a line for each case.
+mod cuts;
+mod dead;
+mod keys;
+mod places;
 mod say;
-mod scanning;
-mod writing;
 
 fn main() {
-    writing::edges();
-    scanning::edges();
-    reading::edges();
-    merging::edges();
-    numbering::edges();
-    dropping::edges();
+    keys::edges();
+    dead::edges();
+    cuts::edges();
+    places::edges();
 }

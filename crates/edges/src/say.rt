@@ -1,9 +1,6 @@
 // Words and numbers on standard output.
-use frames::place::Place;
-use frames::writer::Report;
-use frames::writer::Writer;
-use hash::Hash128;
 use libc::STDOUT_FILENO;
+use numbers::cut::CutShort;
 use numbers::handle::BlobIndirection;
 
 pub fn say(words: &[u8]) {
@@ -25,6 +22,13 @@ pub fn refused(x: u64) {
     number(x);
 }
 
+// Where reading began, the bytes needed and the bytes present.
+pub fn cut(c: CutShort) {
+    number(c.at as u64);
+    number(c.needed as u64);
+    number(c.present as u64);
+}
+
 // Whether what a refusal hands back is what came in.
 pub fn same(right: bool) {
     if right {
@@ -34,16 +38,6 @@ pub fn same(right: bool) {
     }
 }
 
-pub fn place(p: Place) {
-    number(p.at as u64);
-    number(p.len as u64);
-}
-
-pub fn sum(h: Hash128) {
-    number(h.low);
-    number(h.high);
-}
-
 // File id, offset, on-disk and stated length.
 pub fn pointer(p: BlobIndirection) {
     let h = p.handle;
@@ -51,84 +45,6 @@ pub fn pointer(p: BlobIndirection) {
     number(h.offset);
     number(h.size as u64);
     number(p.stated as u64);
-}
-
-// Item count, on-disk bytes, stated bytes, and where the first and last keys lie.
-pub fn report(r: Report) {
-    say(b" done");
-    number(r.items);
-    number(r.disk);
-    number(r.stated);
-    place(r.first);
-    place(r.last);
-}
-
-// Id, offset and item count.
-pub fn stand(w: Writer) {
-    say(b" writer");
-    number(w.id);
-    number(w.offset as u64);
-    number(w.items);
-}
-
-fn same_place(a: Place, b: Place) -> bool {
-    if a.at == b.at { a.len == b.len } else { false }
-}
-
-fn same_totals(a: Writer, b: Writer) -> bool {
-    if a.items != b.items {
-        return false;
-    }
-    if a.disk != b.disk {
-        return false;
-    }
-    a.stated == b.stated
-}
-
-fn same_settings(a: Writer, b: Writer) -> bool {
-    if a.id != b.id {
-        return false;
-    }
-    if a.offset != b.offset {
-        return false;
-    }
-    if a.target != b.target {
-        return false;
-    }
-    a.finished == b.finished
-}
-
-pub fn same_writer(a: Writer, b: Writer) -> bool {
-    if !same_settings(a, b) {
-        return false;
-    }
-    if !same_totals(a, b) {
-        return false;
-    }
-    if !same_place(a.first, b.first) {
-        return false;
-    }
-    same_place(a.last, b.last)
-}
-
-fn byte(x: u8) {
-    number(x as u64);
-}
-
-// A space and a number for each byte.
-pub fn bytes(s: &[u8]) {
-    let mut i = 0;
-    while i < s.len() {
-        byte(s[i]);
-        i += 1;
-    }
-}
-
-// One byte changed.
-pub fn put(buf: &mut [u8], at: usize, x: u8) {
-    if at < buf.len() {
-        buf[at] = x;
-    }
 }
 
 // Whether every byte is x.

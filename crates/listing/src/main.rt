@@ -1,92 +1,19 @@
 // The listing program: the frames in the first 65,536 bytes of standard input.
-use frames::scanner::ScanEntry;
-use frames::scanner::Scanned;
-use frames::scanner::Scanner;
-use libc::STDIN_FILENO;
-use libc::STDOUT_FILENO;
+mod input;
+mod list;
 
-// Where the next step begins, or that the list is over.
-enum Turn {
-    On(usize),
-    Over,
-}
-
-fn number(x: u64) {
-    io::print_decimal(STDOUT_FILENO, x);
-}
-
-fn space() {
-    io::write_all(STDOUT_FILENO, b" ");
-}
-
-fn end_line() {
-    io::write_all(STDOUT_FILENO, b"\n");
-}
-
-// Two numbers of a line, each with a space before it.
-fn pair(a: u64, b: u64) {
-    space();
-    number(a);
-    space();
-    number(b);
-}
-
-// Offset, key length, seqno, stated and on-disk length.
-fn entry(e: ScanEntry) {
-    number(e.offset as u64);
-    pair(e.key.len as u64, e.seqno);
-    pair(e.stated as u64, e.value.len as u64);
-    end_line();
-}
-
-fn end(at: usize) {
-    io::write_all(STDOUT_FILENO, b"end ");
-    number(at as u64);
-    end_line();
-}
-
-// The refusal's number and the offset where its step began.
-fn refused(why: u64, at: usize) {
-    io::write_all(STDOUT_FILENO, b"refused");
-    pair(why, at as u64);
-    end_line();
-}
-
-// One step, and its line.
-fn one_step(file: &[u8], at: usize) -> Turn {
-    let found = Scanner { at, ended: false }.step(file);
-    match found {
-        Scanned::Entry(e, next) => {
-            entry(e);
-            Turn::On(next.at)
-        }
-        Scanned::End { at: place, next: _ } => {
-            end(place);
-            Turn::Over
-        }
-        Scanned::Refused(why, _) => {
-            refused(why.number(), at);
-            Turn::Over
-        }
-    }
-}
-
-// A scan of n bytes is over within n/4 + 1 steps.
-fn list(file: &[u8]) {
-    let mut at = 0;
-    let mut turns = file.len() / 4 + 1;
-    while 0 < turns {
-        let t = one_step(file, at);
-        match t {
-            Turn::On(next) => at = next,
-            Turn::Over => return,
-        }
-        turns -= 1;
-    }
-}
+use input::Input;
+use input::filled;
+use libc::STDERR_FILENO;
+use list::list;
+use numbers::bytes::part;
 
 fn main() {
     let mut bytes = io::large_buffer();
-    let n = io::read_full(STDIN_FILENO, &mut bytes);
-    list(&bytes[..n]);
+    match filled(&mut bytes) {
+        Input::Bytes(n) => list(part(&bytes, 0, n)),
+        Input::Failed => {
+            io::write_all(STDERR_FILENO, b"cannot read\n");
+        }
+    }
 }

@@ -29,9 +29,13 @@ pub enum Verdict {
     Differs,
 }
 
+/// Stands for a case that a side never came to. Two of these are no agreement: one malformed record silences both sides.
+pub const NO_ANSWER: &str = "(no answer)";
+
 pub fn verdict(judged: &[String], given: &[String]) -> Verdict {
     let free = judged.iter().position(|line| line.starts_with(UNJUDGED));
-    if given.iter().any(|line| line == "differs") {
+    let silent = |lines: &[String]| lines.iter().any(|line| line == NO_ANSWER);
+    if silent(judged) || silent(given) || given.iter().any(|line| line == "differs") {
         return Verdict::Differs;
     }
     let Some(free) = free else {
@@ -60,6 +64,11 @@ pub fn segments(lines: Vec<String>, labels: &HashMap<String, u64>) -> Vec<(Optio
     made
 }
 
+/// A program's name without its folder.
+pub fn name_of(program: &Path) -> String {
+    program.file_name().unwrap_or_default().to_string_lossy().into_owned()
+}
+
 impl Sides {
     pub fn new(answers: PathBuf, judge: String, calls: PathBuf) -> io::Result<Self> {
         let scratch = Scratch::new()?;
@@ -69,6 +78,11 @@ impl Sides {
     /// What the side that judges is called.
     pub fn judge(&self) -> &str {
         &self.judge
+    }
+
+    /// What the side that is judged is called.
+    pub fn judged(&self) -> String {
+        format!("the program {}", name_of(&self.calls))
     }
 
     fn run(&self, program: &Path, input: &Path) -> io::Result<Vec<String>> {

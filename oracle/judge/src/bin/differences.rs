@@ -6,9 +6,10 @@ use judge::scratch::Scratch;
 use original::door::garbage::{Entry, Map};
 use original::door::merge::{Drained, Merge, Part};
 use original::door::point::{read, Report};
-use original::door::write::Files;
+use original::door::write::{Files, Ids, Rotation};
 use std::fs::File;
 use std::os::unix::fs::FileExt;
+use std::path::Path;
 
 fn say(what: &str, rust: impl std::fmt::Debug, rule: &str) {
     println!("{what}\n  Rust: {rust:?}\n  document 01: {rule}");
@@ -72,6 +73,53 @@ fn refused_merge(scratch: &Scratch) {
     say("merge of b, d, then a cut part, then a: five calls", calls, "refused 7 of part 1 at every call");
 }
 
+/// The rotation's empty file and its ids. `folder` shows what is there.
+fn rotation(scratch: &Scratch) {
+    let names = |folder: &Path| {
+        let mut names: Vec<String> = std::fs::read_dir(folder)
+            .expect("the writer's folder")
+            .map(|file| file.expect("a file").file_name().to_string_lossy().into_owned())
+            .collect();
+        names.sort();
+        names
+    };
+    let folder = scratch.folder("rotated");
+    let ids = Ids::new(5);
+    let writer = Rotation::new(&ids, &folder, 1 << 26);
+    let before = names(&folder);
+    let answer = writer.finish();
+    say(
+        "a rotation with target 2^26, ids from 5: the files there before a finish with no frame, its answer, and after",
+        (before, answer, names(&folder)),
+        "refused 5",
+    );
+
+    let folder = scratch.folder("rotated");
+    let ids = Ids::new(5);
+    let mut writer = Rotation::new(&ids, &folder, 42);
+    let put = writer.append(b"a", 7, b"xyz");
+    let (next, before) = (ids.next(), names(&folder));
+    let answer = writer.finish();
+    say(
+        "target 42, ids from 5, append of a, 7, xyz: its handle (file, offset, size), the counter's next id, the files; then finish: \
+         its answer (file, items), the files, the counter",
+        (put, next, before, answer, names(&folder), ids.next()),
+        "put 5 0 3, done with it: the file is finished, no other is there; finish is refused 4; next file is asked for and has id 6",
+    );
+
+    let folder = scratch.folder("rotated");
+    let ids = Ids::new(5);
+    let mut writer = Rotation::new(&ids, &folder, 42);
+    let taken = ids.take();
+    let first = writer.append(b"a", 7, b"xyz");
+    let second = writer.append(b"b", 8, b"xyz");
+    say(
+        "target 42, ids from 5, another writer takes an id from the counter, then appends of a and b: that id, and the handles",
+        (taken, first, second),
+        "the second file's id is the first's plus one",
+    );
+}
+
 fn wrapping() {
     let full = Entry { frames: u32::MAX.into(), stated: u64::MAX, disk: u64::MAX };
     let mut map = Map::with([(1, full)]);
@@ -79,6 +127,14 @@ fn wrapping() {
     map.drop(true, &original::door::numbers::encode(pointer));
     say("a drop of lengths 2 and 3 on an entry at its bounds", map.get(1), "refused 12, the map unchanged");
     say("that map stored", map.store(), "refused 12 before");
+    let mut target = Map::with([(1, full)]);
+    Map::with([(1, Entry { frames: 1, stated: 2, disk: 3 })]).merge_into(&mut target);
+    say(
+        "a map (id 1: 1, 2, 3) merged into one with id 1 at its bounds",
+        target.get(1),
+        "refused 12, both maps unchanged",
+    );
+    say("that map stored", target.store(), "refused 12 before");
     let two = Map::with([(1, full), (2, Entry { disk: 5, ..full })]);
     say("sum of 2^64 - 1 and 5", two.stale_bytes(), "refused 12");
     let many = Map::with((0..65).map(|id| (id, Entry { frames: 1, stated: 1, disk: 1 })));
@@ -137,6 +193,7 @@ fn main() {
     let scratch = Scratch::new().expect("a folder for scratch files");
     far_read(&scratch);
     refused_merge(&scratch);
+    rotation(&scratch);
     wrapping();
     huge_count();
     assertions(&scratch);

@@ -1,5 +1,5 @@
-//! fixed-list OUTDIR [SEED]: writes `stdin` and `stdout` for crates/calls, from the original Rust's answers alone.
-//! Only records that it judges whole are taken, so many of each letter, and none that is long.
+//! fixed-list OUTDIR [SEED]: writes `stdin` and `stdout`, records and their lines, from the original Rust's answers alone.
+//! Only records that it judges whole are taken, so many of each letter, and none that is long. ../../../fixed-list puts the edges behind them.
 
 use judge::answer::{Judge, UNJUDGED};
 use judge::cases::{batches, case};

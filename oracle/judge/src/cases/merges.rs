@@ -1,5 +1,5 @@
-//! Merges and drains: parts sorted and unsorted, one inside a longer image, keys that are prefixes of each other, seqnos
-//! whose stored bytes sort another way than they do.
+//! Merges and drains: parts sorted and unsorted, one inside a longer image, keys that are prefixes of each other, long keys
+//! that share all but their last bytes, seqnos whose stored bytes sort another way than they do.
 
 use super::files::{finished, Frame};
 use crate::random::Random;
@@ -11,13 +11,36 @@ struct Image {
     bytes: Vec<u8>,
     parts: Vec<Part>,
     frames: Vec<Vec<Frame>>,
+    long: bool,
 }
 
 const KEYS: [&[u8]; 12] =
     [b"", b"a", b"aa", b"ab", b"b", b"10", b"9", b"a\0", b"\xff", b"\xff\xff", b"key-1", b"key-10"];
 const SEQNOS: [u64; 10] = [0, 1, 9, 10, 255, 256, 257, 65_536, u64::MAX - 1, u64::MAX];
 
-fn key(r: &mut Random) -> Vec<u8> {
+/// Around the eight bytes of a word and its double, and well past them.
+const LENGTHS: [usize; 7] = [7, 8, 9, 15, 16, 17, 200];
+
+/// Keys of one length share all bytes but one of the last two, or of the last seventeen. Where `longest` they may have 5,000.
+fn long_key(longest: bool, r: &mut Random) -> Vec<u8> {
+    let len = if longest && r.chance(20) { 5_000 } else { r.pick(&LENGTHS) };
+    let mut key = vec![b'p'; len];
+    let back = if r.chance(2) { 1 + r.below(2) } else { 1 + r.below(17) } as usize;
+    let at = len.saturating_sub(back);
+    key[at] = r.pick(b"\0opq\x7f\x80\xff");
+    if r.chance(4) {
+        key.truncate(len - r.below(2) as usize);
+    }
+    if r.chance(6) {
+        key.push(r.pick(b"\0p\xff"));
+    }
+    key
+}
+
+fn key(long: bool, longest: bool, r: &mut Random) -> Vec<u8> {
+    if long && !r.chance(8) {
+        return long_key(longest, r);
+    }
     if r.chance(5) {
         let len = r.below(6) as usize;
         r.bytes(len)
@@ -27,8 +50,10 @@ fn key(r: &mut Random) -> Vec<u8> {
 }
 
 /// A frame whose key and seqno no part has yet, but for a few.
-fn frame(seen: &mut BTreeSet<(Vec<u8>, u64)>, r: &mut Random) -> Option<Frame> {
-    let key = key(r);
+fn frame(long: bool, seen: &mut BTreeSet<(Vec<u8>, u64)>, r: &mut Random) -> Option<Frame> {
+    // so few that a record still fits its batch
+    let longest = seen.iter().filter(|(key, _)| key.len() > 1_000).count() < 3;
+    let key = key(long, longest, r);
     let seqno = if r.chance(3) { r.number() } else { r.pick(&SEQNOS) };
     if !seen.insert((key.clone(), seqno)) && !r.chance(200) {
         return None;
@@ -47,11 +72,12 @@ fn image(r: &mut Random) -> Image {
         _ => 1 + r.below(5),
     };
     let sorted = r.chance(2);
+    let long = r.chance(2);
     let mut seen = BTreeSet::new();
-    let mut image = Image { bytes: Vec::new(), parts: Vec::new(), frames: Vec::new() };
+    let mut image = Image { bytes: Vec::new(), parts: Vec::new(), frames: Vec::new(), long };
     for k in 0..count {
         let wanted = r.below(if count > 6 { 3 } else { 6 });
-        let mut frames: Vec<Frame> = (0..wanted).filter_map(|_| frame(&mut seen, r)).collect();
+        let mut frames: Vec<Frame> = (0..wanted).filter_map(|_| frame(long, &mut seen, r)).collect();
         if sorted {
             frames.sort_by_key(|f| (f.key.clone(), Reverse(f.seqno)));
         }
@@ -91,7 +117,12 @@ pub fn merge(r: &mut Random) -> Record {
 fn ask(image: &Image, r: &mut Random) -> Ask {
     let full: Vec<usize> = (0..image.frames.len()).filter(|&k| !image.frames[k].is_empty()).collect();
     if full.is_empty() || r.chance(8) {
-        return Ask { key: key(r), id: r.below(13), offset: r.below(300), take: r.chance(2) };
+        return Ask {
+            key: key(image.long, false, r),
+            id: r.below(13),
+            offset: r.below(300),
+            take: r.chance(2),
+        };
     }
     let k = r.pick(&full);
     let at = r.below(image.frames[k].len() as u64) as usize;

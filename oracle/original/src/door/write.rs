@@ -193,3 +193,44 @@ impl Files {
         self.plain = None;
     }
 }
+
+/// The counter that hands out file ids, as several writers may share it.
+pub struct Ids(SequenceNumberCounter);
+
+impl Ids {
+    pub fn new(first: u64) -> Self {
+        Self(SequenceNumberCounter::new(first))
+    }
+
+    /// The id that the next file would get.
+    pub fn next(&self) -> u64 {
+        self.0.get()
+    }
+
+    /// Takes that id, as another writer does.
+    pub fn take(&self) -> u64 {
+        self.0.next()
+    }
+}
+
+/// multi_writer.rs alone.
+pub struct Rotation(MultiWriter);
+
+impl Rotation {
+    pub fn new(ids: &Ids, folder: &Path, target: u64) -> Self {
+        let writer = MultiWriter::new(ids.0.clone(), folder, 0, None).expect("a new file");
+        Self(writer.use_target_size(target))
+    }
+
+    /// File, offset and size.
+    pub fn append(&mut self, key: &[u8], seqno: u64, value: &[u8]) -> (u64, u64, u32) {
+        let handle = self.0.write(key, seqno, value).expect("a write");
+        (handle.blob_file_id, handle.offset, handle.on_disk_size)
+    }
+
+    /// Id and items of each file that it hands over; nothing where it panics.
+    pub fn finish(self) -> Option<Vec<(u64, u64)>> {
+        let files = unless_it_panics(|| self.0.finish())?.expect("finished files");
+        Some(files.iter().map(|file| (file.0.id, file.0.meta.item_count)).collect())
+    }
+}

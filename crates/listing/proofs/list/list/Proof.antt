@@ -1,7 +1,7 @@
 -- The list is safe and ends: the turns that are left fall, and nothing has to hold from turn to turn.
 use borrow.Author.Needs.{needs}
-use Rattle.listing.proofs.list.Statement.{statement}
-use Rattle.listing.proofs.list.Tie as tie
+use Rattle.listing.proofs.list.list.Statement.{statement}
+use Rattle.listing.proofs.list.list.Tie as tie
 
 abbrev Inv-loop : tie.InvT-loop
 Inv-loop file at₀ turns₀ at turns = Unit {0}
