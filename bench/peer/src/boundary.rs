@@ -92,6 +92,9 @@ pub fn append(row: &mut [u64; 11], buf: &mut [u8], key: &[u8], seqno: u64, value
     unsafe { pd_append(row, buf.as_mut_ptr(), buf.len(), key.as_ptr(), k, seqno, value.as_ptr(), v) }
 }
 
+/// What `step` says at the end.
+pub const END: u64 = 100;
+
 pub fn step(file: &[u8], at: usize, out: &mut [u64; 8]) -> u64 {
     unsafe { pd_step(file.as_ptr(), file.len(), at, out) }
 }

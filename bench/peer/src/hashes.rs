@@ -1,7 +1,7 @@
 //! XXH3-128 of one slice, and of a 20-byte key and a value as one string. Every maker is a function of C's convention that is not
 //! compiled into its caller, as a library's is: bytes in, the low half out, the high half written.
 
-use crate::{boundary, fold, noise, Case, Plan};
+use crate::{boundary, fold, given, maker, noise, Case, Maker, Plan};
 
 #[repr(C)]
 struct Pair {
@@ -57,14 +57,16 @@ fn stream(key: &[u8], value: &[u8]) -> [u64; 2] {
     [low, high]
 }
 
-/// A pass that hashes the same bytes as often as a case has entries.
-fn passes(entries: usize, hash: impl Fn() -> [u64; 2] + 'static) -> crate::Pass {
-    Box::new(move || {
-        (0..entries).fold(0, |sum, _| {
+/// A pass hashes the same bytes as often as a case has entries.
+fn makes(name: &'static str, entries: usize, hash: impl Fn() -> [u64; 2] + Clone + 'static) -> Maker {
+    let again = hash.clone();
+    let pass = move || {
+        (0..entries).fold(0u64, |sum, _| {
             let [low, high] = hash();
-            sum ^ fold(low, high)
+            sum.wrapping_add(fold(low, high))
         })
-    })
+    };
+    maker(name, pass, move || vec![given(&again(), &[])])
 }
 
 fn entries(n: usize) -> usize {
@@ -72,34 +74,44 @@ fn entries(n: usize) -> usize {
 }
 
 fn one(n: usize) -> Case {
-    let of = |hash: fn(&[u8]) -> [u64; 2]| {
+    let of = |name, hash: fn(&[u8]) -> [u64; 2]| {
         let bytes = noise(n, 1);
-        passes(entries(n), move || hash(std::hint::black_box(&bytes)))
+        makes(name, entries(n), move || hash(std::hint::black_box(&bytes)))
     };
     Case {
         kind: "hash",
         size: n.to_string(),
         entries: entries(n),
-        makers: vec![("pitchdowel", of(boundary::hash)), ("xxhash-rust", of(rust)), ("libxxhash", of(libxxhash))],
+        results: 1,
+        makers: vec![of("pitchdowel", boundary::hash), of("xxhash-rust", rust), of("libxxhash", libxxhash)],
     }
 }
 
 fn joined(n: usize) -> Case {
-    let of = |at: usize, hash: fn(&[u8], &[u8]) -> [u64; 2]| {
+    let of = |name, at: usize, hash: fn(&[u8], &[u8]) -> [u64; 2]| {
         let bytes = noise(n, 1);
         let (key, value) = (bytes[..at].to_vec(), bytes[at..].to_vec());
-        passes(entries(n), move || hash(std::hint::black_box(&key), std::hint::black_box(&value)))
+        makes(name, entries(n), move || hash(std::hint::black_box(&key), std::hint::black_box(&value)))
     };
     Case {
         kind: "joined",
         size: n.to_string(),
         entries: entries(n),
-        makers: vec![("pitchdowel", of(KEY, boundary::hash_joined)), ("two-updates", of(KEY, stream)), ("one-slice", of(n, whole))],
+        results: 1,
+        makers: vec![
+            of("pitchdowel", KEY, boundary::hash_joined),
+            of("two-updates", KEY, stream),
+            of("one-slice", n, whole),
+        ],
     }
 }
 
 pub fn plans() -> Vec<Plan> {
     let kinds = [("hash", &SIZES[..], one as fn(usize) -> Case), ("joined", &JOINED[..], joined)];
-    let plan = |(kind, n, make): (_, usize, fn(usize) -> Case)| Plan { kind, size: n.to_string(), make: Box::new(move || make(n)) };
+    let plan = |(kind, n, make): (_, usize, fn(usize) -> Case)| Plan {
+        kind,
+        size: n.to_string(),
+        make: Box::new(move || make(n)),
+    };
     kinds.into_iter().flat_map(|(kind, sizes, make)| sizes.iter().map(move |&n| (kind, n, make))).map(plan).collect()
 }

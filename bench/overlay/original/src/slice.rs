@@ -28,6 +28,9 @@ impl Slice {
         Ok(builder.freeze())
     }
 
+    /// As in the crate, the originals borrow these bytes as `&mut [u8]` and read into them: by the letter of the language undefined
+    /// while they are unwritten. Zeroing them first would cost the peer time that the crate does not spend.
+    ///
     /// # Safety
     ///
     /// All bytes must be written before they are read.

@@ -1,10 +1,11 @@
 //! The originals with nothing around them: what the measurements call.
 
 use super::point::{blob_file, Report};
-use crate::blob_tree::FragmentationMap;
+use crate::blob_tree::{FragmentationEntry, FragmentationMap};
 use crate::coding::{Decode, Encode};
 use crate::compaction::stream::DroppedKvCallback;
 use crate::vlog::blob_file::reader::Reader;
+use crate::vlog::blob_file::writer::Writer;
 use crate::vlog::ValueHandle;
 use crate::{BlobFile, InternalValue, UserValue, ValueType};
 use std::fs::File;
@@ -25,6 +26,13 @@ impl Point {
     }
 }
 
+/// Offset, items, on-disk and stated bytes; and the first and the last key.
+pub fn told(writer: &Writer) -> ([u64; 4], [Vec<u8>; 2]) {
+    let key = |key: &Option<crate::UserKey>| key.as_ref().map_or(Vec::new(), |k| k.to_vec());
+    let numbers = [writer.offset(), writer.item_count, writer.written_blob_bytes, writer.uncompressed_bytes];
+    (numbers, [key(&writer.first_key), key(&writer.last_key)])
+}
+
 #[derive(Default)]
 pub struct Map(pub FragmentationMap);
 
@@ -42,11 +50,20 @@ impl Map {
         self.0.iter().map(|(id, e)| (*id, e.bytes + e.on_disk_bytes))
     }
 
+    /// Id, frames, stated and on-disk bytes, by id.
+    pub fn entries(&self) -> Vec<[u64; 4]> {
+        let one = |(id, e): (&u64, &FragmentationEntry)| [*id, e.len as u64, e.bytes, e.on_disk_bytes];
+        let mut all: Vec<_> = self.0.iter().map(one).collect();
+        all.sort();
+        all
+    }
+
     pub fn store(&self, to: &mut Vec<u8>) {
         self.0.encode_into(to).expect("a list takes everything");
     }
 
-    pub fn load(mut bytes: &[u8]) -> Self {
-        Self(FragmentationMap::decode_from(&mut bytes).expect("a stored map"))
+    /// What follows is left.
+    pub fn load(bytes: &mut &[u8]) -> Self {
+        Self(FragmentationMap::decode_from(bytes).expect("a stored map"))
     }
 }

@@ -1,4 +1,4 @@
-//! Stand-in for rustc-hash: a number's hash is one product.
+//! Stand-in for rustc-hash, after the recipe of FxHash (turn, xor, multiply): a number's hash is one product.
 
 use std::hash::{BuildHasher, Hasher};
 
