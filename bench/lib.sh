@@ -15,6 +15,6 @@ peer() {
     mv "$made/rust/peer/workspace.toml" "$made/rust/Cargo.toml"
     echo 'pub mod fast;' >>"$made/rust/original/src/door.rs"
     (cd "$made/rust" && CARGO_TARGET_DIR=$made/cargo cargo build --release --offline --quiet) ||
-        missing "the program over both could not be built (above: why)"
+        failed "the program over both could not be built (above: why)"
     PEER=$made/cargo/release/peer
 }

@@ -8,7 +8,8 @@ use frames::writer::Writer;
 use numbers::handle::ValueHandle;
 ghost use mathlib.Core.Path.{_≡_};
 ghost use lib.ListN.{length};
-ghost use Rattle.frames.specs.Point.{toldOf};
+ghost use Rattle.frames.specs.Point.{readOf};
+ghost use Rattle.frames.specs.Shape.{plainOf, blobForm};
 ghost use Rattle.frames.specs.Scan.{going, stepOf};
 ghost use Rattle.frames.specs.Write.{appendAnswer, appendBytes};
 ghost use Rattle.boundary.specs.Rows.{handleOf, placeRow, writerOf, writerRow, appendedRow, appendedNumber, stepRow, stepNumber};
@@ -88,9 +89,10 @@ pub extern "C" fn pd_append(
     seqno: u64,
     value: &[u8],
 ) -> u64
-    ensures { λ r. ⌜ (r ≡ appendedNumber (appendAnswer (writerOf (now (row .entry))) (length (now (buf .entry))) (length (now (key .entry))) (length (now (value .entry))) (length (now (value .entry)))))
-        × (now (row .exit) ≡ appendedRow (now (row .entry)) (appendAnswer (writerOf (now (row .entry))) (length (now (buf .entry))) (length (now (key .entry))) (length (now (value .entry))) (length (now (value .entry)))))
-        × (now (buf .exit) ≡ appendBytes (writerOf (now (row .entry))) (now (buf .entry)) (now (key .entry)) seqno (length (now (value .entry))) (now (value .entry))) ⌝ }
+    ensures { λ r. ⌜
+        (r ≡ appendedNumber (appendAnswer blobForm (writerOf (now (row .entry))) (now (buf .entry)) (plainOf (now (key .entry)) seqno (now (value .entry)))))
+        × (now (row .exit) ≡ appendedRow (now (row .entry)) (appendAnswer blobForm (writerOf (now (row .entry))) (now (buf .entry)) (plainOf (now (key .entry)) seqno (now (value .entry)))))
+        × (now (buf .exit) ≡ appendBytes blobForm (writerOf (now (row .entry))) (now (buf .entry)) (plainOf (now (key .entry)) seqno (now (value .entry)))) ⌝ }
 {
     let old = *row;
     let w = writer_of(old);
@@ -162,8 +164,8 @@ pub extern "C" fn pd_read(
     size: u32,
     out: &mut [u64; 2],
 ) -> u64
-    ensures { λ r. ⌜ (r ≡ toldOf (now (file .entry)) (length (now (key .entry))) (handleOf offset size) .number)
-        × (now (out .exit) ≡ placeRow (toldOf (now (file .entry)) (length (now (key .entry))) (handleOf offset size) .value)) ⌝ }
+    ensures { λ r. ⌜ (r ≡ readOf (now (file .entry)) (now (key .entry)) (handleOf offset size) .number)
+        × (now (out .exit) ≡ placeRow (readOf (now (file .entry)) (now (key .entry)) (handleOf offset size) .value)) ⌝ }
 {
     let h = ValueHandle {
         offset,

@@ -6,8 +6,10 @@ use lib.ListN.{drop}
 use lib.Dec.{leb}
 use Rattle.numbers.specs.Le.{num}
 use Rattle.frames.specs.Layout.{headerOf}
-use Rattle.frames.specs.Write.{firstOf, grown}
+use Rattle.frames.specs.Shape.{sizeOf}
+use Rattle.frames.specs.Write.{keyPlace, firstOf, grown}
 use Rattle.frames.specs.declared.place.Place.{Place}
+use Rattle.frames.specs.declared.shape.Shape.{Shape}
 use Rattle.frames.specs.declared.writer.Writer.{Writer}
 
 -- a header, of the numbers read at its places
@@ -17,7 +19,7 @@ unfolding headerOf
 header-law p low high seqno key stated size a b c d e f = rw (a, b, c, d, e, f)
 
 -- a writer after an append that is taken
-pub grown-law : (w : Writer) (key value stated : ℕ) (first : Place) → first ≡ firstOf (w .items) (record { at = w .offset + 38; len = key }) (w .first)
-    → record { id = w .id; offset = w .offset + 38 + key + value; items = w .items + 1; disk = w .disk + value; stated = w .stated + stated; target = w .target; finished = leb (w .target) (w .offset + 38 + key + value); first = first; last = record { at = w .offset + 38; len = key } } ≡ grown w key value stated
+pub grown-law : (w : Writer) (f : Shape) (size : ℕ) (first : Place) → size ≡ sizeOf f → first ≡ firstOf (w .items) (keyPlace w f) (w .first)
+    → record { id = w .id; offset = w .offset + size; items = w .items + 1; disk = w .disk + f .value; stated = w .stated + f .stated; target = w .target; finished = leb (w .target) (w .offset + size); first = first; last = keyPlace w f } ≡ grown w f
 unfolding grown
-grown-law w key value stated first e = rw e
+grown-law w f size first s e = rw (s, e)

@@ -1,6 +1,6 @@
 -- A step that is neither end nor 7 moves at least 4 bytes, since each such answer moves past a mark; so bytes left over 4 bound the steps.
 use Prim.Native.Nat.{ℕ, zero, suc, _+_, _-_, _*_, _/_, _<_, _≤_}
-use mathlib.Core.Path.{_≡_, refl}
+use mathlib.Core.Path.{_≡_, refl, _∙_}
 use mathlib.Core.List.{List}
 use mathlib.Core.Bool.{Bool, true, false}
 use native.Mathlib.Omega.{arith}
@@ -8,9 +8,9 @@ use native.Mathlib.Decide.{decLt}
 use lib.ListN.{length, drop}
 use lib.Dec.{ltb}
 use Rattle.numbers.specs.Pick.{pick}
-use Rattle.frames.specs.Layout.{blob, meta, headerOf, starts, sameSum}
+use Rattle.frames.specs.Layout.{blob, meta, headerOf, starts, sameSum, headerLength}
 use Rattle.frames.specs.Scan.{going, cutAt, reading, frameOf, frameAt, sumAt, checkedOf, stepOf}
-use Rattle.frames.specs.ScanLaws.{at-ended, at-cut, checked-end, checked-cut}
+use Rattle.frames.proofs.ScanLaws.{at-ended, at-cut, checked-end, checked-cut}
 use Rattle.frames.specs.Scans.{after, isOver, overWithin}
 use Rattle.frames.specs.Theorems.{Progress, Over}
 use Rattle.frames.specs.declared.header.Header.{Header}
@@ -18,11 +18,14 @@ use Rattle.frames.specs.declared.scanner.Scanner.{Scanner}
 use Rattle.frames.specs.declared.scanner.FrameRefusal.the-variants as frame
 use Rattle.frames.specs.declared.scanner.Framed.{Framed}
 use Rattle.frames.specs.declared.scanner.Framed.the-variants as framed
+use Rattle.frames.specs.declared.scanner.ScanEntry.{ScanEntry}
+use Rattle.frames.specs.declared.scanner.ScanRefusal.{ScanRefusal}
 use Rattle.frames.specs.declared.scanner.Scanned.{Scanned}
+use Rattle.frames.specs.declared.scanner.Scanned.the-variants as scanned
 
 abbrev Moves : Scanner → Framed → Type 0
 Moves w (framed.Entry e sum next) = w .at + 4 ≤ next .at
-Moves w (framed.End at next) = Unit
+Moves w (framed.End at next) = w .at ≡ at
 Moves w (framed.Refused (frame.CutShort cut) next) = Unit
 Moves w (framed.Refused (frame.InvalidHeader at) next) = w .at + 4 ≤ next .at
 
@@ -36,7 +39,7 @@ module _ (s : List ℕ) (w : Scanner) where
   unfolding reading
   read-on at needed more m = either w (ltb (length s - at) needed) (cutAt at needed (length s - at) w) more tt m
 
-  whole : (h : Header) → w .at + 4 ≤ w .at + 38 + h .key + h .size
+  whole : (h : Header) → w .at + 4 ≤ w .at + headerLength + h .key + h .size
   whole h = omega arith
 
   frame-moves : Moves w (frameOf s w)
@@ -45,7 +48,7 @@ module _ (s : List ℕ) (w : Scanner) where
 
   moves : Moves w (frameAt s w)
   unfolding frameAt
-  moves = either w (w .ended) _ _ tt (read-on (w .at) 4 _ (either w (starts meta (drop (w .at) s)) _ _ tt (either w (starts blob (drop (w .at) s)) _ _ frame-moves (omega arith))))
+  moves = either w (w .ended) _ _ refl (read-on (w .at) 4 _ (either w (starts meta (drop (w .at) s)) _ _ refl (either w (starts blob (drop (w .at) s)) _ _ frame-moves (omega arith))))
 
 either-after : (at : ℕ) (b : Bool) (x y : Scanned) → at ≤ after x .at → at ≤ after y .at → at ≤ after (pick b x y) .at
 unfolding pick
@@ -62,6 +65,23 @@ checked-moves s w (framed.Refused (frame.InvalidHeader at) next) m h = m
 pub progress : Progress
 unfolding stepOf
 progress s w h = checked-moves s w (frameAt s w) (moves s w) h
+
+-- a step that ends the scan ends it where it began
+neither : (b : Bool) (e : ScanEntry) (n next : Scanner) (why : ScanRefusal) (m : ℕ) → pick b (scanned.Entry e n) (scanned.Refused why n) ≡ scanned.End m next → ⊥
+unfolding pick
+neither true e n next why m h = let z : _≡_ {A = ℕ} 0 1 = cc in omega arith
+neither false e n next why m h = let z : _≡_ {A = ℕ} 0 1 = cc in omega arith
+
+checked-at : (s : List ℕ) (w next : Scanner) (m : ℕ) (f : Framed) → Moves w f → checkedOf s f ≡ scanned.End m next → w .at ≡ m
+unfolding checkedOf
+checked-at s w next m (framed.Entry e sum n) p h = absurd (neither (sameSum sum (sumAt s e)) e n next _ m h)
+checked-at s w next m (framed.End at n) p h = p ∙ cc h
+checked-at s w next m (framed.Refused (frame.CutShort cut) n) p h = absurd (let z : _≡_ {A = ℕ} 0 1 = cc in omega arith)
+checked-at s w next m (framed.Refused (frame.InvalidHeader at) n) p h = absurd (let z : _≡_ {A = ℕ} 0 1 = cc in omega arith)
+
+pub end-at : (s : List ℕ) (w next : Scanner) (m : ℕ) → stepOf s w ≡ scanned.End m next → w .at ≡ m
+unfolding stepOf
+end-at s w next m q = checked-at s w next m (frameAt s w) (moves s w) q
 
 -- under 4 bytes left, a step ends or is cut short
 few : (s : List ℕ) (w : Scanner) → length s - w .at < 4 → (b : Bool) → w .ended ≡ b → isOver (stepOf s w) ≡ true
@@ -84,4 +104,4 @@ over-within zero s w h = absurd (omega arith)
 over-within (suc n) s w h = over-by n s w h (isOver (stepOf s w)) refl (over-within n s (after (stepOf s w)))
 
 pub over : Over
-over s = over-within _ s (going 0) (omega arith)
+over s w = over-within _ s w (omega arith)

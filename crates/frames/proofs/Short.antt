@@ -1,6 +1,6 @@
 -- A file that is cut: a frame that lies whole before the cut is read as before, since a step looks no further than its frame; the first that does not is cut short, and none after it lies whole.
 use Prim.Native.Nat.{ℕ, zero, suc, _+_, _-_, _<_, _≤_, min}
-use mathlib.Core.Path.{_≡_, refl, sym, subst, _∙_}
+use mathlib.Core.Path.{_≡_, refl, sym, ap, _∙_}
 use mathlib.Core.List.{List, [], _∷_}
 use mathlib.Core.Bool.{true, false}
 use native.Mathlib.Omega.{arith}
@@ -12,19 +12,22 @@ use lib.Dec.{leb}
 use Rattle.numbers.specs.Pick.{pick}
 use Rattle.numbers.specs.Le.{num}
 use Rattle.numbers.specs.declared.cut.CutShort.{CutShort}
-use Rattle.frames.specs.Layout.{blob, meta, headerOf, starts}
+use Rattle.frames.specs.Layout.{blob, meta, headerLength, headerOf, starts}
 use Rattle.frames.specs.LayoutLaws.{le-blob, le-meta}
 use Rattle.frames.specs.Scan.{going, cutAt, entryOf, frameOf, frameAt, partAt, sumAt, stepOf}
-use Rattle.frames.specs.ScanLaws.{at-cut, at-blob, frame-header, frame-key, frame-value, frame-whole, checked-cut, checked-entry}
-use Rattle.frames.specs.Scans.{Gives, none, entry, wholeBefore}
+use Rattle.frames.proofs.ScanLaws.{at-cut, at-blob, frame-header, frame-key, frame-value, frame-whole, checked-cut, checked-entry}
+use Rattle.frames.specs.Scans.{Walk, goOn, walkFrom, ahead, endsAt, beginAt, wholeBefore}
 use Rattle.frames.specs.Theorems.{Cut}
 use Rattle.frames.specs.declared.place.Place.{Place}
 use Rattle.frames.specs.declared.header.Header.{Header}
 use Rattle.frames.specs.declared.scanner.Scanner.{Scanner}
 use Rattle.frames.specs.declared.scanner.ScanEntry.{ScanEntry}
 use Rattle.frames.specs.declared.scanner.ScanRefusal.the-variants as scan
+use Rattle.frames.specs.declared.scanner.Scanned.{Scanned}
 use Rattle.frames.specs.declared.scanner.Scanned.the-variants as scanned
-use Rattle.frames.proofs.Whole.{Whole, whole}
+use Rattle.frames.specs.StepLaws.{Whole, whole}
+use Rattle.frames.proofs.Moved.{end-at}
+use Rattle.frames.proofs.Walking.{walk-on, walk-entry, walk-refused}
 
 -- Fronts of lists.
 
@@ -51,7 +54,7 @@ starts-take (m ∷ mark) zero l h = absurd (omega arith)
 starts-take (m ∷ mark) (suc n) [] h = refl
 starts-take (m ∷ mark) (suc n) (b ∷ l) h = let e = starts-take mark n l (omega arith) in rw e
 
-header-take : (n : ℕ) (l : List ℕ) → 38 ≤ n → headerOf (take n l) ≡ headerOf l
+header-take : (n : ℕ) (l : List ℕ) → headerLength ≤ n → headerOf (take n l) ≡ headerOf l
 unfolding headerOf
 header-take n l h = λ i. record {
   sum = record { low = num-part 8 4 n l (omega arith) i; high = num-part 8 12 n l (omega arith) i };
@@ -80,7 +83,7 @@ module _ (s : List ℕ) (cut : ℕ) (w : Scanner) (e : ScanEntry) (next : Scanne
   abbrev there : List ℕ
   there = drop (w .at) (take cut s)
 
-  room : w .at + 38 + h .key + h .size ≤ length s
+  room : w .at + headerLength + h .key + h .size ≤ length s
   room = p .room
 
   front : there ≡ take (cut - w .at) (drop (w .at) s)
@@ -98,7 +101,7 @@ module _ (s : List ℕ) (cut : ℕ) (w : Scanner) (e : ScanEntry) (next : Scanne
   mark : w .at + 4 ≤ cut → starts blob there ≡ true
   mark f = rw front (starts-take blob (cut - w .at) (drop (w .at) s) (omega arith) ∙ p .mark)
 
-  header : w .at + 38 ≤ cut → h ≡ headerOf there
+  header : w .at + headerLength ≤ cut → h ≡ headerOf there
   header f = sym (rw front (header-take (cut - w .at) (drop (w .at) s) (omega arith)))
 
   marked : w .at + 4 ≤ cut → frameAt (take cut s) w ≡ frameOf (take cut s) w
@@ -107,7 +110,7 @@ module _ (s : List ℕ) (cut : ℕ) (w : Scanner) (e : ScanEntry) (next : Scanne
       let y = long in
       at-blob (take cut s) w (p .on) (length (take cut s) - w .at) refl (omega arith) there refl false (sym (rw le-meta (no-end f))) refl true (sym (rw le-blob (mark f))) refl
 
-  sum-same : w .at + 38 + h .key + h .size ≤ cut → sumAt (take cut s) e ≡ sumAt s e
+  sum-same : w .at + headerLength + h .key + h .size ≤ cut → sumAt (take cut s) e ≡ sumAt s e
   unfolding sumAt
   sum-same f =
       let k : partAt (take cut s) (entryOf (w .at) h .key) ≡ partAt s (entryOf (w .at) h .key) = part-take s cut (entryOf (w .at) h .key) (omega arith) in
@@ -115,7 +118,7 @@ module _ (s : List ℕ) (cut : ℕ) (w : Scanner) (e : ScanEntry) (next : Scanne
       rw (← p .entry, k, v)
 
   -- whole before the cut
-  before : w .at + 38 + h .key + h .size ≤ cut → stepOf (take cut s) w ≡ scanned.Entry e next
+  before : w .at + headerLength + h .key + h .size ≤ cut → stepOf (take cut s) w ≡ scanned.Entry e next
   unfolding stepOf
   before f =
       let x = room in
@@ -129,10 +132,10 @@ module _ (s : List ℕ) (cut : ℕ) (w : Scanner) (e : ScanEntry) (next : Scanne
   cut-short at needed present q f = (_, checked-cut (take cut s) (frameAt (take cut s) w) _ _ w (marked f ∙ q) refl)
 
   -- not whole
-  across : cut < w .at + 38 + h .key + h .size → Short (take cut s) w
-  across f = by (decLt cut (w .at + 4)) (decLt cut (w .at + 38)) (decLt cut (w .at + 38 + h .key))
+  across : cut < w .at + headerLength + h .key + h .size → Short (take cut s) w
+  across f = by (decLt cut (w .at + 4)) (decLt cut (w .at + headerLength)) (decLt cut (w .at + headerLength + h .key))
     where
-      by : Dec (cut < w .at + 4) → Dec (cut < w .at + 38) → Dec (cut < w .at + 38 + h .key) → Short (take cut s) w
+      by : Dec (cut < w .at + 4) → Dec (cut < w .at + headerLength) → Dec (cut < w .at + headerLength + h .key) → Short (take cut s) w
       by (yes a) b c = let y = long in few (take cut s) w (p .on) (omega arith)
       by (no a) (yes b) c =
           let x = room in
@@ -150,55 +153,80 @@ module _ (s : List ℕ) (cut : ℕ) (w : Scanner) (e : ScanEntry) (next : Scanne
           let z = size in
           cut-short _ _ _ (frame-value (take cut s) w there refl h (header (omega arith)) (omega arith) (omega arith) (omega arith)) (omega arith)
 
-  -- where the frame ends, by its entry and by the scanner after it
-  ends : e .value .at + e .value .len ≡ next .at
-  ends = rw (← p .entry, ← p .next)
-
-  ends-at : next .at ≡ w .at + 38 + h .key + h .size
+  -- where the step after the frame begins
+  ends-at : next .at ≡ w .at + headerLength + h .key + h .size
   ends-at = rw (← p .next)
 
-  pub stays-on : next .ended ≡ false
+  stays-on : next .ended ≡ false
   stays-on = rw (← p .next)
 
--- from behind the cut on, no entry lies whole before it
-none-before : {s : List ℕ} {w last : Scanner} {es : List ScanEntry} (cut : ℕ) → Gives s w es last → cut < w .at → wholeBefore cut es ≡ []
-unfolding wholeBefore pick
-none-before cut none h = refl
-none-before {s} {w} cut (entry {next = n} {e = e} q g) h =
-    let p = whole s w e n q in
-    let a = ends s cut w e n p in
-    let b = ends-at s cut w e n p in
-    let f : leb (e .value .at + e .value .len) cut ≡ false = lt-leb (e .value .at + e .value .len) cut (omega arith) in
-    rw f (none-before cut g (omega arith))
+-- The scan of the whole file, taken apart at its first step.
 
--- the entries, and then 7
-abbrev Stops : List ℕ → Scanner → List ScanEntry → Type 0
-Stops s w es = (v : Scanner) × (v .ended ≡ false) × Gives s w es v × Short s v
+module _ (s : List ℕ) (m : ℕ) where
+  only-end : (w : Scanner) → walkFrom s w ≡ endsAt [] m → stepOf s w ≡ scanned.End m (record { at = m; ended = true })
+  unfolding goOn
+  only-end w q = by (stepOf s w) refl (sym (walk-on s w) ∙ q)
+    where
+      by : (x : Scanned) → stepOf s w ≡ x → goOn x (walkFrom s) ≡ endsAt [] m → stepOf s w ≡ scanned.End m (record { at = m; ended = true })
+      by (scanned.Entry e next) p g = absurd (let l : e ∷ walkFrom s next .entries ≡ [] = ap (λ (v : Walk). v .entries) g in let z : _≡_ {A = ℕ} 0 1 = cc in omega arith)
+      by (scanned.End at next) p g = p ∙ ap (λ (v : Walk). v .last) g
+      by (scanned.Refused why next) p g = p ∙ ap (λ (v : Walk). v .last) g
 
-stops-by : {s : List ℕ} {last : Scanner} {es : List ScanEntry} (cut : ℕ) (w : Scanner) (e : ScanEntry) (n : Scanner) → stepOf s w ≡ scanned.Entry e n → Gives s n es last
-    → (n .ended ≡ false → Stops (take cut s) n (wholeBefore cut es)) → Dec (cut < n .at) → Stops (take cut s) w (wholeBefore cut (e ∷ es))
-unfolding wholeBefore pick
-stops-by {s} cut w e n q g more (yes c) =
-    let p = whole s w e n q in
-    let a = ends s cut w e n p in
-    let b = ends-at s cut w e n p in
-    let f : leb (e .value .at + e .value .len) cut ≡ false = lt-leb (e .value .at + e .value .len) cut (omega arith) in
-    rw (f, none-before cut g c) (w, p .on, none, across s cut w e n p (omega arith))
-stops-by {s} cut w e n q g more (no c) =
-    let p = whole s w e n q in
-    let a = ends s cut w e n p in
-    let b = ends-at s cut w e n p in
-    let f : leb (e .value .at + e .value .len) cut ≡ true = le-leb (e .value .at + e .value .len) cut (omega arith) in
-    let m = more (stays-on s cut w e n p) in
-    rw f (m .0, m .1, entry (before s cut w e n p (omega arith)) (m .2), m .3)
+  an-entry : (w : Scanner) (e : ScanEntry) (es : List ScanEntry) → walkFrom s w ≡ endsAt (e ∷ es) m
+      → (next : Scanner) × (stepOf s w ≡ scanned.Entry e next) × (walkFrom s next ≡ endsAt es m)
+  unfolding goOn
+  an-entry w e es q = by (stepOf s w) refl (sym (walk-on s w) ∙ q)
+    where
+      by : (x : Scanned) → stepOf s w ≡ x → goOn x (walkFrom s) ≡ endsAt (e ∷ es) m
+          → (next : Scanner) × (stepOf s w ≡ scanned.Entry e next) × (walkFrom s next ≡ endsAt es m)
+      by (scanned.Entry f next) p g =
+          let l : f ∷ walkFrom s next .entries ≡ e ∷ es = ap (λ (v : Walk). v .entries) g in
+          let a : f ≡ e = cc in
+          let b : walkFrom s next .entries ≡ es = cc in
+          let c : walkFrom s next .last ≡ scanned.End m (record { at = m; ended = true }) = ap (λ (v : Walk). v .last) g in
+          (next, p ∙ rw a, λ i. record { entries = b i; last = c i })
+      by (scanned.End at next) p g = absurd (let l : [] ≡ e ∷ es = ap (λ (v : Walk). v .entries) g in let z : _≡_ {A = ℕ} 0 1 = cc in omega arith)
+      by (scanned.Refused why next) p g = absurd (let l : [] ≡ e ∷ es = ap (λ (v : Walk). v .entries) g in let z : _≡_ {A = ℕ} 0 1 = cc in omega arith)
 
-stops : {s : List ℕ} {w last : Scanner} {es : List ScanEntry} (cut : ℕ) → Gives s w es last → w .ended ≡ false → cut < last .at + 4 → Stops (take cut s) w (wholeBefore cut es)
-unfolding wholeBefore
-stops {s} {w} cut none on h = let y = length-take cut s in (w, on, none, few (take cut s) w on (omega arith))
-stops {s} {w} cut (entry {next = n} {e = e} q g) on h = stops-by cut w e n q g (λ f. stops cut g f h) (decLt cut (n .at))
+  -- the first step begins where the scanner stands
+  begins : (es : List ScanEntry) (w : Scanner) → walkFrom s w ≡ endsAt es m → beginAt es m ≡ w .at
+  begins [] w q = sym (end-at s w _ m (only-end w q))
+  begins (e ∷ es) w q =
+      let p = an-entry w e es q in
+      sym (ap (λ (x : ScanEntry). x .offset) (whole s w e (p .0) (p .1) .entry))
+
+  -- the entries, and then 7
+  abbrev Stops : List ℕ → Scanner → List ScanEntry → Type 0
+  Stops t w es = (at : ℕ) × (why : CutShort) × (walkFrom t w ≡ record { entries = es; last = scanned.Refused (scan.CutShort why) (going at) })
+
+  here : (t : List ℕ) (w : Scanner) → w .ended ≡ false → Short t w → Stops t w []
+  here t w on c =
+      let v : w ≡ going (w .at) = λ i. record { at = w .at; ended = on i } in
+      (w .at, c .0, walk-refused t w w _ (c .1) ∙ ap (λ (x : Scanner). record { entries = []; last = scanned.Refused (scan.CutShort (c .0)) x }) v)
+
+  module _ (cut : ℕ) (h : cut < m + 4) where
+    stops : (es : List ScanEntry) (w : Scanner) → w .ended ≡ false → walkFrom s w ≡ endsAt es m → Stops (take cut s) w (wholeBefore cut es m)
+    unfolding wholeBefore pick
+    stops [] w on q =
+        let z = end-at s w _ m (only-end w q) in
+        let y = length-take cut s in
+        here (take cut s) w on (few (take cut s) w on (omega arith))
+    stops (e ∷ es) w on q =
+        let p = an-entry w e es q in
+        by (p .0) (p .1) (begins es (p .0) (p .2)) (stops es (p .0) (stays-on s cut w e (p .0) (whole s w e (p .0) (p .1))) (p .2)) (decLt cut (p .0 .at))
+      where
+        by : (next : Scanner) → stepOf s w ≡ scanned.Entry e next → beginAt es m ≡ next .at → Stops (take cut s) next (wholeBefore cut es m) → Dec (cut < next .at)
+            → Stops (take cut s) w (pick (leb (beginAt es m) cut) (e ∷ wholeBefore cut es m) [])
+        by next x b more (yes c) =
+            let p = whole s w e next x in
+            let a = ends-at s cut w e next p in
+            let f : leb (beginAt es m) cut ≡ false = lt-leb (beginAt es m) cut (omega arith) in
+            rw f (here (take cut s) w on (across s cut w e next p (omega arith)))
+        by next x b more (no c) =
+            let p = whole s w e next x in
+            let a = ends-at s cut w e next p in
+            let f : leb (beginAt es m) cut ≡ true = le-leb (beginAt es m) cut (omega arith) in
+            rw f (more .0, more .1, walk-entry (take cut s) w next e (before s cut w e next p (omega arith)) ∙ ap (ahead (e ∷ [])) (more .2))
 
 pub short : Cut
-short s es m cut g h =
-    let p = stops cut (g .0) refl h in
-    let v : p .0 ≡ going (p .0 .at) = λ i. record { at = p .0 .at; ended = p .1 i } in
-    (p .0 .at, p .3 .0, subst (Gives (take cut s) (going 0) (wholeBefore cut es)) v (p .2), subst (λ (x : Scanner). stepOf (take cut s) x ≡ scanned.Refused (scan.CutShort (p .3 .0)) x) v (p .3 .1))
+short s es m cut q h = stops s m cut h es (going 0) refl q

@@ -1,4 +1,5 @@
 -- The sums that the functions hash, over plain bytes; their proofs cite these laws.
+use Rattle.frames.specs.Layout.{headerLength}
 use Prim.Native.Nat.{ℕ, _+_}
 use mathlib.Core.Path.{_≡_, _∙_}
 use mathlib.Core.List.{List, _++_}
@@ -6,7 +7,7 @@ use lib.ListN.{take, drop}
 use Rattle.hash.specs.declared.Hash128.{Hash128}
 use Rattle.hash.specs.XXH3.{xxh3-128}
 use Rattle.frames.specs.Point.{takenSum}
-use Rattle.frames.specs.PointLaws.{taken-once}
+use Rattle.frames.proofs.PointLaws.{taken-once}
 use Rattle.frames.specs.Scan.{partAt, sumAt, frameAt, checkedOf, stepOf}
 use Rattle.frames.specs.declared.scanner.Scanner.{Scanner}
 use Rattle.frames.specs.declared.scanner.ScanEntry.{ScanEntry}
@@ -19,10 +20,10 @@ part-law s p at len r e h = rw (h, e)
 
 -- of what was taken, in one part or in two
 module _ (t : List ℕ) (hk k : ℕ) (r : Hash128) where
-  pub one-part-law : (u : List ℕ) → hk ≡ k → u ≡ drop 38 t → r ≡ xxh3-128 u → r ≡ takenSum t hk k
+  pub one-part-law : (u : List ℕ) → hk ≡ k → u ≡ drop headerLength t → r ≡ xxh3-128 u → r ≡ takenSum t hk k
   one-part-law u e p h = h ∙ taken-once t u hk k e p
 
-  pub two-parts-law : (key value : List ℕ) → key ≡ take hk (drop 38 t) → value ≡ drop (38 + k) t → r ≡ xxh3-128 (key ++ value) → r ≡ takenSum t hk k
+  pub two-parts-law : (key value : List ℕ) → key ≡ take hk (drop headerLength t) → value ≡ drop (headerLength + k) t → r ≡ xxh3-128 (key ++ value) → r ≡ takenSum t hk k
   unfolding takenSum
   two-parts-law key value e f h = rw (h, e, f)
 

@@ -23,14 +23,25 @@ unfoldable pub headerBytes : Header → List ℕ
 headerBytes h =
     blob ++ le 8 (h .sum .low) ++ le 8 (h .sum .high) ++ le 8 (h .seqno) ++ le 2 (h .key) ++ le 4 (h .stated) ++ le 4 (h .size)
 
--- the header of a frame: the sum covers key then value, hashed as one string
-abbrev pub headerFor : List ℕ → ℕ → ℕ → List ℕ → Header
-headerFor key seqno stated value =
-    record { sum = xxh3-128 (key ++ value); seqno = seqno; key = length key; stated = stated; size = length value }
+-- its length
+abbrev pub headerLength : ℕ
+headerLength = 38
+
+-- what a frame is made of
+pub record Item : Type 0 where
+  pub key : List ℕ
+  pub seqno : ℕ
+  pub stated : ℕ
+  pub value : List ℕ
+
+-- the header of an item: the sum covers key then value, hashed as one string
+abbrev pub headerFor : Item → Header
+headerFor i =
+    record { sum = xxh3-128 (i .key ++ i .value); seqno = i .seqno; key = length (i .key); stated = i .stated; size = length (i .value) }
 
 -- the frame: the header, then key, then value
-unfoldable pub frameBytes : List ℕ → ℕ → ℕ → List ℕ → List ℕ
-frameBytes key seqno stated value = headerBytes (headerFor key seqno stated value) ++ key ++ value
+unfoldable pub frameBytes : Item → List ℕ
+frameBytes i = headerBytes (headerFor i) ++ i .key ++ i .value
 
 -- the numbers that a header at the front of p holds
 unfoldable pub headerOf : List ℕ → Header

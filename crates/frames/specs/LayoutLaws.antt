@@ -15,16 +15,16 @@ use Rattle.hash.specs.XXH3.{xxh3-128}
 use Rattle.numbers.specs.Pick.{pick}
 use Rattle.numbers.specs.Le.{le, num}
 use Rattle.numbers.specs.LeLaws.{length-le, sets-then}
-use Rattle.frames.specs.Layout.{blob, meta, headerBytes, headerFor, frameBytes, starts}
+use Rattle.frames.specs.Layout.{blob, meta, headerBytes, headerLength, Item, headerFor, frameBytes, starts}
 use Rattle.frames.specs.declared.header.Header.{Header}
 
-pub length-header : (h : Header) → length (headerBytes h) ≡ 38
+pub length-header : (h : Header) → length (headerBytes h) ≡ headerLength
 unfolding headerBytes
 length-header h = simp (length-append, length-le)
 
-pub length-frame : (key : List ℕ) (seqno stated : ℕ) (value : List ℕ) → length (frameBytes key seqno stated value) ≡ 38 + length key + length value
+pub length-frame : (i : Item) → length (frameBytes i) ≡ headerLength + length (i .key) + length (i .value)
 unfolding frameBytes
-length-frame key seqno stated value = simp (length-append, length-header)
+length-frame i = simp (length-append, length-header)
 
 pub le-blob : le 4 0x424f_4c42 ≡ blob
 unfolding le
@@ -84,21 +84,21 @@ sets-there v l b i n e fits m =
 
 -- the frame's stores: key, value, and then the header with their sum
 pub frame-stored : (b₀ b₁ b₂ b₃ key value : List ℕ) (at seqno stated : ℕ) (sum : Hash128)
-    → at + 38 + length key + length value ≤ length b₀
-    → b₁ ≡ sets b₀ (at + 38) key
-    → b₂ ≡ sets b₁ (at + 38 + length key) value
-    → sum ≡ xxh3-128 (take (length key + length value) (drop (at + 38) b₂))
+    → at + headerLength + length key + length value ≤ length b₀
+    → b₁ ≡ sets b₀ (at + headerLength) key
+    → b₂ ≡ sets b₁ (at + headerLength + length key) value
+    → sum ≡ xxh3-128 (take (length key + length value) (drop (at + headerLength) b₂))
     → b₃ ≡ sets b₂ at (headerBytes (record { sum = sum; seqno = seqno; key = length key; stated = stated; size = length value }))
-    → b₃ ≡ sets b₀ at (frameBytes key seqno stated value)
+    → b₃ ≡ sets b₀ at (frameBytes (record { key = key; seqno = seqno; stated = stated; value = value }))
 unfolding frameBytes
 frame-stored b₀ b₁ b₂ b₃ key value at seqno stated sum fits p₁ p₂ s p₃ =
-    let body : b₂ ≡ sets b₀ (at + 38) (key ++ value) = sets-then b₀ b₁ b₂ key value (at + 38) (at + 38 + length key) p₁ p₂ refl in
+    let body : b₂ ≡ sets b₀ (at + headerLength) (key ++ value) = sets-then b₀ b₁ b₂ key value (at + headerLength) (at + headerLength + length key) p₁ p₂ refl in
     let n : length key + length value ≡ length (key ++ value) = simp length-append in
-    let there : take (length key + length value) (drop (at + 38) b₂) ≡ key ++ value =
-    sets-there (key ++ value) b₀ b₂ (at + 38) (length key + length value) body (omega (arith, n, fits)) n in
+    let there : take (length key + length value) (drop (at + headerLength) b₂) ≡ key ++ value =
+    sets-there (key ++ value) b₀ b₂ (at + headerLength) (length key + length value) body (omega (arith, n, fits)) n in
     let e : sum ≡ xxh3-128 (key ++ value) = rw there at s in
-    let h = headerBytes (headerFor key seqno stated value) in
-    p₃ ∙ rw (e, body) (sets-before h (key ++ value) b₀ at (at + 38) (simp length-header) ∙ ap (λ (l : List ℕ). sets b₀ at l) (sym (append-assoc h key value)))
+    let h = headerBytes (headerFor (record { key = key; seqno = seqno; stated = stated; value = value })) in
+    p₃ ∙ rw (e, body) (sets-before h (key ++ value) b₀ at (at + headerLength) (simp length-header) ∙ ap (λ (l : List ℕ). sets b₀ at l) (sym (append-assoc h key value)))
 
 -- A mark read as a number, where each byte is below 256.
 

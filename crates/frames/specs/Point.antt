@@ -1,16 +1,17 @@
 -- What a point read tells, and the part that it hands back: document 01, "The scan and the point read".
 use Prim.Native.Nat.{ℕ, _+_, _-_, min}
 use mathlib.Core.List.{List, _++_}
+use mathlib.Core.Bool.{not}
 use lib.ListN.{length, take, drop}
 use lib.Dec.{ltb}
 use denote.Ref.{RefT}
 use Rattle.hash.specs.declared.Hash128.{Hash128}
 use Rattle.hash.specs.XXH3.{xxh3-128}
-use Rattle.numbers.specs.Pick.{pick}
+use Rattle.numbers.specs.Pick.{if_then_else_}
 use Rattle.numbers.specs.Part.{behind}
 use Rattle.numbers.specs.declared.cut.CutShort.{CutShort}
 use Rattle.numbers.specs.declared.handle.ValueHandle.{ValueHandle}
-use Rattle.frames.specs.Layout.{blob, headerOf, starts, sameSum}
+use Rattle.frames.specs.Layout.{blob, headerLength, headerOf, starts, sameSum}
 use Rattle.frames.specs.declared.place.Place.{Place}
 use Rattle.frames.specs.declared.reader.Told.{Told}
 
@@ -37,27 +38,30 @@ cutTold at needed present = told 7 (record { at = at; needed = needed; present =
 -- found where the sums are the same, else 9 with both
 unfoldable pub summed : Place → Hash128 → Hash128 → Told
 summed value stored computed =
-    pick (sameSum stored computed)
-    (record { number = 0; value = value; stored = stored; computed = computed; cut = noCut })
-    (record { number = 9; value = noPlace; stored = stored; computed = computed; cut = noCut })
+    if sameSum stored computed then record { number = 0; value = value; stored = stored; computed = computed; cut = noCut } else
+    record { number = 9; value = noPlace; stored = stored; computed = computed; cut = noCut }
 
 -- the sum over the header's key and the bytes from 38 + given key length on
 unfoldable pub takenSum : List ℕ → ℕ → ℕ → Hash128
-takenSum t hk k = xxh3-128 (take hk (drop 38 t) ++ drop (38 + k) t)
+takenSum t hk k = xxh3-128 (take hk (drop headerLength t) ++ drop (headerLength + k) t)
 
 -- t was taken at `at` for a given key length k and on-disk size: the mark, 8; the header's key must fit what was taken, 7; the sum, 9
 unfoldable pub withinOf : List ℕ → ℕ → ℕ → ℕ → Told
 withinOf t at k size =
-    pick (starts blob t)
-    (pick (ltb (length t - 38) (headerOf t .key)) (cutTold (at + 38) (headerOf t .key) (length t - 38))
-    (summed (record { at = at + 38 + k; len = size }) (headerOf t .sum) (takenSum t (headerOf t .key) k)))
-    (told 8 noCut)
+    if not (starts blob t) then told 8 noCut else
+    if ltb (length t - headerLength) (headerOf t .key) then cutTold (at + headerLength) (headerOf t .key) (length t - headerLength) else
+    summed (record { at = at + headerLength + k; len = size }) (headerOf t .sum) (takenSum t (headerOf t .key) k)
 
 -- a read by a handle with a key of k bytes needs 38 + k + on-disk size bytes from the offset, else 7
 unfoldable pub toldOf : List ℕ → ℕ → ValueHandle → Told
 toldOf s k h =
-    pick (ltb (length s - h .offset) (38 + k + h .size)) (cutTold (h .offset) (38 + k + h .size) (length s - h .offset))
-    (withinOf (take (38 + k + h .size) (drop (h .offset) s)) (h .offset) k (h .size))
+    let needed = headerLength + k + h .size in
+    if ltb (length s - h .offset) needed then cutTold (h .offset) needed (length s - h .offset) else
+    withinOf (take needed (drop (h .offset) s)) (h .offset) k (h .size)
+
+-- the point read: of the bytes, a key and a handle. The given key's bytes are not compared, only its length is used
+abbrev pub readOf : List ℕ → List ℕ → ValueHandle → Told
+readOf s key h = toldOf s (length key) h
 
 -- the value's bytes
 abbrev pub partOf : List ℕ → Told → List ℕ

@@ -1,9 +1,10 @@
--- A run: calls of one writer, made one after another in one buffer, folded from what the contracts say of each call.
+-- A run: calls of one writer, made one after another in one buffer, folded from what the contracts say of each call; the form of frame is its argument.
 use Prim.Native.Nat.{ℕ, _<_, _^_}
 use mathlib.Core.List.{List, [], _∷_, _++_}
 use lib.ListN.{length}
 use Rattle.numbers.specs.declared.handle.BlobIndirection.{BlobIndirection}
-use Rattle.frames.specs.Layout.{frameBytes}
+use Rattle.frames.specs.Layout.{Item}
+use Rattle.frames.specs.Shape.{itemOf, plainOf, Form, blobForm}
 use Rattle.frames.specs.Write.{targeted, appendAnswer, appendBytes, finishAnswer, finishBytes}
 use Rattle.frames.specs.declared.writer.Writer.{Writer}
 use Rattle.frames.specs.declared.writer.Report.{Report}
@@ -32,10 +33,7 @@ Typed (c ∷ cs) = TypedCall c × Typed cs
 
 -- an accepted append: what was handed over, and the indirection that was handed out
 pub record Frame : Type 0 where
-  pub key : List ℕ
-  pub seqno : ℕ
-  pub stated : ℕ
-  pub value : List ℕ
+  pub item : Item
   pub pointer : BlobIndirection
 
 -- each frame of a list
@@ -51,50 +49,40 @@ pub record Run : Type 0 where
   pub reports : List Report
 
 -- an append's answer, taken apart
-unfoldable pub appendRun : List ℕ → ℕ → ℕ → List ℕ → List ℕ → Appended → Run
-appendRun key seqno stated value s (appended.Put pointer w) = record {
-  writer = w;
-  buffer = s;
-  frames = record { key = key; seqno = seqno; stated = stated; value = value; pointer = pointer } ∷ [];
-  reports = [];
-}
-appendRun key seqno stated value s (appended.Last pointer w report) = record {
-  writer = w;
-  buffer = s;
-  frames = record { key = key; seqno = seqno; stated = stated; value = value; pointer = pointer } ∷ [];
-  reports = report ∷ [];
-}
-appendRun key seqno stated value s (appended.Refused why w) = record { writer = w; buffer = s; frames = []; reports = [] }
+unfoldable pub appendRun : Item → List ℕ → Appended → Run
+appendRun i s (appended.Put pointer w) = record { writer = w; buffer = s; frames = record { item = i; pointer = pointer } ∷ []; reports = [] }
+appendRun i s (appended.Last pointer w report) = record { writer = w; buffer = s; frames = record { item = i; pointer = pointer } ∷ []; reports = report ∷ [] }
+appendRun i s (appended.Refused why w) = record { writer = w; buffer = s; frames = []; reports = [] }
 
 -- a finish's answer, taken apart
 unfoldable pub finishRun : List ℕ → Closed → Run
 finishRun s (closed.Done w report) = record { writer = w; buffer = s; frames = []; reports = report ∷ [] }
 finishRun s (closed.Refused why w) = record { writer = w; buffer = s; frames = []; reports = [] }
 
-abbrev pub appending : List ℕ → ℕ → ℕ → List ℕ → Writer → List ℕ → Run
-appending key seqno stated value w s =
-    appendRun key seqno stated value (appendBytes w s key seqno stated value) (appendAnswer w (length s) (length key) (length value) stated)
+abbrev pub appending : Form → Item → Writer → List ℕ → Run
+appending form i w s = appendRun i (appendBytes form w s i) (appendAnswer form w s i)
 
--- one call; a plain append states the value's own length
-unfoldable pub called : Call → Writer → List ℕ → Run
-called (append key seqno value) w s = appending key seqno (length value) value w s
-called (append-raw key seqno stated value) w s = appending key seqno stated value w s
-called (use-target target) w s = record { writer = targeted w target; buffer = s; frames = []; reports = [] }
-called finish w s = finishRun (finishBytes w s) (finishAnswer w (length s))
+-- one call
+unfoldable pub called : Form → Call → Writer → List ℕ → Run
+called form (append key seqno value) w s = appending form (plainOf key seqno value) w s
+called form (append-raw key seqno stated value) w s = appending form (itemOf key seqno stated value) w s
+called form (use-target target) w s = record { writer = targeted w target; buffer = s; frames = []; reports = [] }
+called form finish w s = finishRun (finishBytes w s) (finishAnswer w (length s))
 
 -- one run, and what followed it
 abbrev pub andThen : Run → Run → Run
 andThen a b = record { writer = b .writer; buffer = b .buffer; frames = a .frames ++ b .frames; reports = a .reports ++ b .reports }
 
 -- the calls in order, each on the writer and the buffer that the one before it left
-unfoldable pub run : List Call → Writer → List ℕ → Run
-run [] w s = record { writer = w; buffer = s; frames = []; reports = [] }
-run (c ∷ cs) w s = andThen (called c w s) (run cs (called c w s .writer) (called c w s .buffer))
+unfoldable pub runBy : Form → List Call → Writer → List ℕ → Run
+runBy form [] w s = record { writer = w; buffer = s; frames = []; reports = [] }
+runBy form (c ∷ cs) w s = andThen (called form c w s) (runBy form cs (called form c w s .writer) (called form c w s .buffer))
 
--- a frame's bytes, and frames' bytes one after another
-abbrev pub bytesFor : Frame → List ℕ
-bytesFor f = frameBytes (f .key) (f .seqno) (f .stated) (f .value)
+-- of document 01's frames
+abbrev pub run : List Call → Writer → List ℕ → Run
+run = runBy blobForm
 
-unfoldable pub allBytes : List Frame → List ℕ
-allBytes [] = []
-allBytes (f ∷ fs) = bytesFor f ++ allBytes fs
+-- frames' bytes one after another
+unfoldable pub allBytes : Form → List Frame → List ℕ
+allBytes form [] = []
+allBytes form (f ∷ fs) = form .bytes (f .item) ++ allBytes form fs

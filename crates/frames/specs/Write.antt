@@ -1,16 +1,18 @@
 -- What the writer answers and writes: document 01, "The frame", and its order of refusals.
-use Prim.Native.Nat.{ℕ, _+_}
+use Prim.Native.Nat.{ℕ, _+_, _<_, _≤_, _^_}
 use mathlib.Core.Path.{refl}
 use mathlib.Core.List.{List, [], _++_}
 use mathlib.Core.Bool.{Bool, true, false, not}
 use lib.ListN.{length}
 use lib.Dec.{ltb, leb, eqb}
 use lib.Seq.{sets}
-use Rattle.numbers.specs.Pick.{pick}
+use Rattle.numbers.specs.Pick.{if_then_else_}
 use Rattle.numbers.specs.declared.handle.BlobIndirection.{BlobIndirection}
-use Rattle.frames.specs.Layout.{meta, frameBytes}
+use Rattle.frames.specs.Layout.{meta, Item}
+use Rattle.frames.specs.Shape.{Form, shapeOf, sizeOf}
 use Rattle.frames.specs.Refusals.{refuseAppend, refuseFinish, refuseNext}
 use Rattle.frames.specs.declared.place.Place.{Place}
+use Rattle.frames.specs.declared.shape.Shape.{Shape}
 use Rattle.frames.specs.declared.writer.Writer.{Writer}
 use Rattle.frames.specs.declared.writer.Report.{Report}
 use Rattle.frames.specs.declared.writer.AppendRefusal.the-variants as append
@@ -50,46 +52,52 @@ abbrev pub reportOf : Writer → Report
 reportOf w = record { items = w .items; disk = w .disk; stated = w .stated; first = w .first; last = w .last }
 
 -- whether a total would pass its width
-unfoldable pub overOf : ℕ → ℕ → ℕ → ℕ → ℕ → Bool
-overOf items disk total value stated =
-    pick (ltb most (items + 1)) true (pick (ltb most (disk + value)) true (ltb most (total + stated)))
+unfoldable pub overOf : Writer → Shape → Bool
+overOf w f =
+    if ltb most (w .items + 1) then true else
+    if ltb most (w .disk + f .value) then true else
+    ltb most (w .stated + f .stated)
 
--- whether an append is taken, in the order 4, 1, 2, 3, 12; n is the buffer's length, key and value are lengths. Nothing wraps: these are whole numbers
-unfoldable pub judged : Writer → ℕ → ℕ → ℕ → ℕ → Judged
-judged w n key value stated =
-    pick (w .finished) (refuseAppend 4 append.Finished refl)
-    (pick (eqb key 0) (refuseAppend 1 append.BadKey refl)
-    (pick (ltb 65535 key) (refuseAppend 1 append.BadKey refl)
-    (pick (ltb 4294967295 value) (refuseAppend 2 append.ValueTooLong refl)
-    (pick (ltb n (w .offset + 38 + key + value + 4)) (refuseAppend 3 append.NoRoom refl)
-    (pick (overOf (w .items) (w .disk) (w .stated) value stated) (refuseAppend 12 append.SumTooBig refl)
-    Go)))))
+-- whether a frame of that shape is taken, in the order 4, 1, 2, 3, 12; n is the buffer's length. Nothing wraps: these are whole numbers
+unfoldable pub judged : Writer → ℕ → Shape → Judged
+judged w n f =
+    if w .finished then refuseAppend 4 append.Finished refl else
+    if eqb (f .key) 0 then refuseAppend 1 append.BadKey refl else
+    if ltb 65535 (f .key) then refuseAppend 1 append.BadKey refl else
+    if ltb 4294967295 (f .value) then refuseAppend 2 append.ValueTooLong refl else
+    if ltb n (w .offset + sizeOf f + 4) then refuseAppend 3 append.NoRoom refl else
+    if overOf w f then refuseAppend 12 append.SumTooBig refl else
+    Go
+
+-- where the key of the next frame lies
+abbrev pub keyPlace : Writer → Shape → Place
+keyPlace w f = record { at = w .offset + f .front; len = f .key }
 
 -- where the first key lies: an append sets it when the item count is 0
 unfoldable pub firstOf : ℕ → Place → Place → Place
-firstOf items here first = pick (eqb items 0) here first
+firstOf items here first = if eqb items 0 then here else first
 
 -- the state after an append that is taken: finished once the offset after it reaches the target
-unfoldable pub grown : Writer → ℕ → ℕ → ℕ → Writer
-grown w key value stated = record {
+unfoldable pub grown : Writer → Shape → Writer
+grown w f = record {
   id = w .id;
-  offset = w .offset + 38 + key + value;
+  offset = w .offset + sizeOf f;
   items = w .items + 1;
-  disk = w .disk + value;
-  stated = w .stated + stated;
+  disk = w .disk + f .value;
+  stated = w .stated + f .stated;
   target = w .target;
-  finished = leb (w .target) (w .offset + 38 + key + value);
-  first = firstOf (w .items) (record { at = w .offset + 38; len = key }) (w .first);
-  last = record { at = w .offset + 38; len = key };
+  finished = leb (w .target) (w .offset + sizeOf f);
+  first = firstOf (w .items) (keyPlace w f) (w .first);
+  last = keyPlace w f;
 }
 
 -- the handle (file id, offset before the frame, value length) and the stated length
-abbrev pub pointerOf : Writer → ℕ → ℕ → BlobIndirection
-pointerOf w value stated = record { handle = record { offset = w .offset; file = w .id; size = value }; stated = stated }
+abbrev pub pointerOf : Writer → Shape → BlobIndirection
+pointerOf w f = record { handle = record { offset = w .offset; file = w .id; size = f .value }; stated = f .stated }
 
 -- the answer of an append that is taken, with the report where it finished the file
 unfoldable pub acceptedAs : BlobIndirection → Writer → Appended
-acceptedAs pointer w = pick (w .finished) (appended.Last pointer w (reportOf w)) (appended.Put pointer w)
+acceptedAs pointer w = if w .finished then appended.Last pointer w (reportOf w) else appended.Put pointer w
 
 -- the end mark, where the file is finished
 unfoldable pub endBytes : Bool → List ℕ
@@ -97,36 +105,38 @@ endBytes true = meta
 endBytes false = []
 
 -- the answer by that verdict: a refused append hands the same state back
-abbrev pub answerOf : Judged → Writer → ℕ → ℕ → ℕ → Appended
-answerOf Go w key value stated = acceptedAs (pointerOf w value stated) (grown w key value stated)
-answerOf (No why) w key value stated = appended.Refused why w
+abbrev pub answerOf : Judged → Writer → Shape → Appended
+answerOf Go w f = acceptedAs (pointerOf w f) (grown w f)
+answerOf (No why) w f = appended.Refused why w
 
--- the bytes by that verdict: a refused append changes none
-abbrev pub bytesOf : Judged → Writer → List ℕ → List ℕ → ℕ → ℕ → List ℕ → List ℕ
-bytesOf Go w s key seqno stated value =
-    sets s (w .offset) (frameBytes key seqno stated value ++ endBytes (grown w (length key) (length value) stated .finished))
-bytesOf (No why) w s key seqno stated value = s
+-- what an append answers by lengths alone: those of the frame, and n, the buffer's
+unfoldable pub answered : Writer → ℕ → Shape → Appended
+answered w n f = answerOf (judged w n f) w f
 
--- what an append answers, of the lengths of buffer, key and value
-unfoldable pub appendAnswer : Writer → ℕ → ℕ → ℕ → ℕ → Appended
-appendAnswer w n key value stated = answerOf (judged w n key value stated) w key value stated
+-- the bytes by that verdict: the frame at the offset, then META where it finished the file; a refused append changes none
+abbrev pub bytesOf : Judged → Writer → List ℕ → Shape → List ℕ → List ℕ
+bytesOf Go w s f bytes = sets s (w .offset) (bytes ++ endBytes (grown w f .finished))
+bytesOf (No why) w s f bytes = s
 
--- the buffer after an append: the frame at the offset, then META where it finished the file; the same bytes where refused
-unfoldable pub appendBytes : Writer → List ℕ → List ℕ → ℕ → ℕ → List ℕ → List ℕ
-appendBytes w s key seqno stated value =
-    bytesOf (judged w (length s) (length key) (length value) stated) w s key seqno stated value
+-- an append of an item, as a frame of that form: what it answers
+abbrev pub appendAnswer : Form → Writer → List ℕ → Item → Appended
+appendAnswer form w s i = answered w (length s) (shapeOf form i)
+
+-- and the buffer after it
+unfoldable pub appendBytes : Form → Writer → List ℕ → Item → List ℕ
+appendBytes form w s i = bytesOf (judged w (length s) (shapeOf form i)) w s (shapeOf form i) (form .bytes i)
 
 -- the writer, finished
-abbrev pub ended : Writer → Writer
-ended w = record { id = w .id; offset = w .offset; items = w .items; disk = w .disk; stated = w .stated; target = w .target; finished = true; first = w .first; last = w .last }
+abbrev pub closedAs : Writer → Writer
+closedAs w = record { id = w .id; offset = w .offset; items = w .items; disk = w .disk; stated = w .stated; target = w .target; finished = true; first = w .first; last = w .last }
 
 -- what a finish answers, in the order 4, 5, 3; n is the buffer's length
 unfoldable pub finishAnswer : Writer → ℕ → Closed
 finishAnswer w n =
-    pick (w .finished) (refuseFinish 4 finish.Finished refl w)
-    (pick (eqb (w .items) 0) (refuseFinish 5 finish.NothingWritten refl w)
-    (pick (ltb n (w .offset + 4)) (refuseFinish 3 finish.NoRoom refl w)
-    (closed.Done (ended w) (reportOf (ended w)))))
+    if w .finished then refuseFinish 4 finish.Finished refl w else
+    if eqb (w .items) 0 then refuseFinish 5 finish.NothingWritten refl w else
+    if ltb n (w .offset + 4) then refuseFinish 3 finish.NoRoom refl w else
+    closed.Done (closedAs w) (reportOf (closedAs w))
 
 -- the buffer by that answer
 abbrev pub closedBytes : Closed → Writer → List ℕ → List ℕ
@@ -137,9 +147,18 @@ closedBytes (closed.Refused why w′) w s = s
 unfoldable pub finishBytes : Writer → List ℕ → List ℕ
 finishBytes w s = closedBytes (finishAnswer w (length s)) w s
 
--- the next file: the id plus one, offset 0, zero counts, settings kept; in the order 15, 6
+-- the next file, in the order 15, 6: the id plus one, offset 0, zero counts, settings kept
 unfoldable pub nextOf : Writer → Opened
 nextOf w =
-    pick (not (w .finished)) (refuseNext 15 next.NotFinished refl w)
-    (pick (leb most (w .id)) (refuseNext 6 next.IdsUsedUp refl w)
-    (opened.Next (startOf (w .id + 1) (w .target))))
+    if not (w .finished) then refuseNext 15 next.NotFinished refl w else
+    if leb most (w .id) then refuseNext 6 next.IdsUsedUp refl w else
+    opened.Next (startOf (w .id + 1) (w .target))
+
+-- As the code takes it apart: what growing asks of an append that was judged, so that no sum passes its width.
+pub record Fits (w : Writer) (f : Shape) : Type 0 where
+  pub key : f .key ≤ 65535
+  pub value : f .value < 2 ^ 32
+  pub offset : w .offset + sizeOf f < 2 ^ 64
+  pub items : w .items + 1 < 2 ^ 64
+  pub disk : w .disk + f .value < 2 ^ 64
+  pub total : w .stated + f .stated < 2 ^ 64

@@ -2,19 +2,23 @@
 use Prim.Native.Nat.{ℕ, _+_, _-_, _<_, _≤_, _^_, min}
 use mathlib.Core.Path.{_≡_, refl, sym, _∙_}
 use mathlib.Core.List.{List}
-use mathlib.Core.Bool.{Bool, true, false, not}
+use mathlib.Core.Bool.{Bool, true, false, not, true≢false}
 use native.Mathlib.Omega.{arith}
-use native.Mathlib.Decide.{decLt}
+use native.Mathlib.Decide.{decLt, ℕ-discrete}
 use borrow.Author.Tests.{lt-ltb, le-ltb, le-leb, lt-leb, eq-eqb, ne-eqb, ltb-false}
 use lib.ListN.{length}
-use lib.Dec.{ltb}
+use lib.Dec.{ltb, eqb}
 use lib.Seq.{sets}
 use Rattle.numbers.specs.Pick.{pick}
 use Rattle.numbers.specs.Le.{le}
 use Rattle.numbers.specs.LeLaws.{sets-then}
-use Rattle.frames.specs.Layout.{frameBytes}
+use Rattle.frames.specs.Layout.{headerLength, Item, frameBytes}
 use Rattle.frames.specs.LayoutLaws.{length-frame, le-meta}
-use Rattle.frames.specs.Write.{most, newWriter, targeted, ended, reportOf, overOf, judged, grown, pointerOf, acceptedAs, endBytes, answerOf, bytesOf, appendAnswer, appendBytes, finishAnswer, finishBytes, nextOf}
+use Rattle.frames.specs.Shape.{itemOf, plainOf, blobForm, shapeOf, sizeOf}
+use Rattle.frames.specs.Write.{most, newWriter, targeted, closedAs, reportOf, overOf, judged, grown, pointerOf, acceptedAs, endBytes, answerOf, bytesOf}
+use Rattle.frames.specs.Write.{Fits, answered, appendAnswer, appendBytes, finishAnswer, finishBytes, nextOf}
+use Rattle.numbers.specs.declared.handle.BlobIndirection.{BlobIndirection}
+use Rattle.frames.specs.declared.shape.Shape.{Shape}
 use Rattle.frames.specs.declared.writer.Writer.{Writer}
 use Rattle.frames.specs.declared.writer.Report.{Report}
 use Rattle.frames.specs.declared.writer.AppendRefusal.{AppendRefusal}
@@ -28,51 +32,44 @@ use Rattle.frames.specs.declared.writer.Appended.the-variants as appende
 use Rattle.frames.specs.declared.writer.Closed.the-variants as closed
 use Rattle.frames.specs.declared.writer.Opened.the-variants as opened
 
--- no sum of an append that is taken passes its width
-pub record Fits (w : Writer) (key value stated : ℕ) : Type 0 where
-  pub offset : w .offset + 38 + key + value < 2 ^ 64
-  pub items : w .items + 1 < 2 ^ 64
-  pub disk : w .disk + value < 2 ^ 64
-  pub total : w .stated + stated < 2 ^ 64
-
 -- The cases, one law for each answer, as the code tests for them.
 
-module _ (w : Writer) (n key value stated : ℕ) where
-  pub judge-finished : w .finished ≡ true → judged w n key value stated ≡ No Finished
+module _ (w : Writer) (n : ℕ) (f : Shape) where
+  pub judge-finished : w .finished ≡ true → judged w n f ≡ No Finished
   unfolding judged pick
   judge-finished h = simp h
 
   module _ (on : w .finished ≡ false) where
-    pub judge-empty : key ≡ 0 → judged w n key value stated ≡ No BadKey
+    pub judge-empty : f .key ≡ 0 → judged w n f ≡ No BadKey
     unfolding judged pick
     judge-empty h = simp (on, eq-eqb _ _ h)
 
-    module _ (some : key ≡ 0 → ⊥) where
-      pub judge-long : 65535 < key → judged w n key value stated ≡ No BadKey
+    module _ (some : f .key ≡ 0 → ⊥) where
+      pub judge-long : 65535 < f .key → judged w n f ≡ No BadKey
       unfolding judged pick
       judge-long h = simp (on, ne-eqb _ _ some, lt-ltb _ _ h)
 
-      module _ (short : key ≤ 65535) where
-        pub judge-value : 4294967295 < value → judged w n key value stated ≡ No ValueTooLong
+      module _ (short : f .key ≤ 65535) where
+        pub judge-value : 4294967295 < f .value → judged w n f ≡ No ValueTooLong
         unfolding judged pick
         judge-value h = simp (on, ne-eqb _ _ some, le-ltb _ _ short, lt-ltb _ _ h)
 
-        module _ (small : value ≤ 4294967295) (r : ℕ) (left : r ≡ n - w .offset) where
-          pub judge-room : r < 38 + key + value + 4 → judged w n key value stated ≡ No NoRoom
+        module _ (small : f .value ≤ 4294967295) (r z : ℕ) (left : r ≡ n - w .offset) (size : z ≡ sizeOf f) where
+          pub judge-room : r < z + 4 → judged w n f ≡ No NoRoom
           unfolding judged pick
           judge-room h =
-              let l : n < w .offset + 38 + key + value + 4 = omega arith in
+              let l : n < w .offset + sizeOf f + 4 = omega arith in
               simp (on, ne-eqb _ _ some, le-ltb _ _ short, le-ltb _ _ small, lt-ltb _ _ l)
 
-          module _ (fits : 38 + key + value + 4 ≤ r) where
-            enough : w .offset + 38 + key + value + 4 ≤ n
+          module _ (fits : z + 4 ≤ r) where
+            enough : w .offset + sizeOf f + 4 ≤ n
             enough = omega arith
 
-            pub judge-over : (o : Bool) → o ≡ overOf (w .items) (w .disk) (w .stated) value stated → o ≡ true → judged w n key value stated ≡ No SumTooBig
+            pub judge-over : (o : Bool) → o ≡ overOf w f → o ≡ true → judged w n f ≡ No SumTooBig
             unfolding judged pick
             judge-over o e t = simp (on, ne-eqb _ _ some, le-ltb _ _ short, le-ltb _ _ small, le-ltb _ _ enough, sym e ∙ t)
 
-            pub judge-go : (o : Bool) → o ≡ overOf (w .items) (w .disk) (w .stated) value stated → o ≡ false → judged w n key value stated ≡ Go
+            pub judge-go : (o : Bool) → o ≡ overOf w f → o ≡ false → judged w n f ≡ Go
             unfolding judged pick
             judge-go o e t = simp (on, ne-eqb _ _ some, le-ltb _ _ short, le-ltb _ _ small, le-ltb _ _ enough, sym e ∙ t)
 
@@ -87,25 +84,25 @@ moved total stated t = by (decLt (most - total) stated)
         let g : stated ≤ most - total = omega arith in
         le-ltb _ _ f ∙ sym (le-ltb _ _ g)
 
-module _ (items disk total value stated : ℕ) where
-  pub over-items : most ≤ items → overOf items disk total value stated ≡ true
+module _ (w : Writer) (f : Shape) where
+  pub over-items : most ≤ w .items → overOf w f ≡ true
   unfolding overOf pick
-  over-items h = let l : most < items + 1 = omega arith in simp (lt-ltb _ _ l)
+  over-items h = let l : most < w .items + 1 = omega arith in simp (lt-ltb _ _ l)
 
-  module _ (few : items < most) where
-    pub over-disk : most - disk < value → overOf items disk total value stated ≡ true
+  module _ (few : w .items < most) where
+    pub over-disk : most - w .disk < f .value → overOf w f ≡ true
     unfolding overOf pick
     over-disk h =
-        let l : most < disk + value = omega arith in
-        let f : items + 1 ≤ most = omega arith in
-        simp (le-ltb _ _ f, lt-ltb _ _ l)
+        let l : most < w .disk + f .value = omega arith in
+        let g : w .items + 1 ≤ most = omega arith in
+        simp (le-ltb _ _ g, lt-ltb _ _ l)
 
-    pub over-rest : disk ≤ most → value ≤ most - disk → total ≤ most → overOf items disk total value stated ≡ ltb (most - total) stated
+    pub over-rest : w .disk ≤ most → f .value ≤ most - w .disk → w .stated ≤ most → overOf w f ≡ ltb (most - w .stated) (f .stated)
     unfolding overOf pick
     over-rest b h t =
-        let l : disk + value ≤ most = omega arith in
-        let f : items + 1 ≤ most = omega arith in
-        simp (le-ltb _ _ f, le-ltb _ _ l) (moved total stated t)
+        let l : w .disk + f .value ≤ most = omega arith in
+        let g : w .items + 1 ≤ most = omega arith in
+        simp (le-ltb _ _ g, le-ltb _ _ l) (moved (w .stated) (f .stated) t)
 
 -- What an append that is taken knows: the tests, the other way round.
 
@@ -119,17 +116,25 @@ unfolding pick
 pick-off true x h = absurd (let z : _≡_ {A = ℕ} 0 1 = cc in omega arith)
 pick-off false x h = (refl, h)
 
-pub record Taken (w : Writer) (n key value stated : ℕ) : Type 0 where
-  pub short : key ≤ 65535
-  pub small : value ≤ 4294967295
-  pub room : w .offset + 38 + key + value + 4 ≤ n
-  pub items : w .items + 1 ≤ most
-  pub disk : w .disk + value ≤ most
-  pub total : w .stated + stated ≤ most
+pub some-number : (k : ℕ) → eqb k 0 ≡ false → 0 < k
+some-number k e = by (ℕ-discrete k 0)
+  where
+    by : Dec (k ≡ 0) → 0 < k
+    by (yes z) = absurd (true≢false (sym (eq-eqb k 0 z) ∙ e))
+    by (no z) = omega arith
 
-pub taken : (w : Writer) (n key value stated : ℕ) (j : Judged) → j ≡ judged w n key value stated → j ≡ Go → Taken w n key value stated
+pub record Taken (w : Writer) (n : ℕ) (f : Shape) : Type 0 where
+  pub some : 0 < f .key
+  pub short : f .key ≤ 65535
+  pub small : f .value ≤ 4294967295
+  pub room : w .offset + sizeOf f + 4 ≤ n
+  pub items : w .items + 1 ≤ most
+  pub disk : w .disk + f .value ≤ most
+  pub total : w .stated + f .stated ≤ most
+
+pub taken : (w : Writer) (n : ℕ) (f : Shape) (j : Judged) → j ≡ judged w n f → j ≡ Go → Taken w n f
 unfolding judged overOf
-taken w n key value stated j e g =
+taken w n f j e g =
     let p₁ = pick-go _ _ _ (sym e ∙ g) in
     let p₂ = pick-go _ _ _ (p₁ .1) in
     let p₃ = pick-go _ _ _ (p₂ .1) in
@@ -138,68 +143,105 @@ taken w n key value stated j e g =
     let p₆ = pick-go _ _ _ (p₅ .1) in
     let q₁ = pick-off _ _ (p₆ .0) in
     let q₂ = pick-off _ _ (q₁ .1) in
-    record { short = ltb-false _ _ (p₃ .0); small = ltb-false _ _ (p₄ .0); room = ltb-false _ _ (p₅ .0); items = ltb-false _ _ (q₁ .0); disk = ltb-false _ _ (q₂ .0); total = ltb-false _ _ (q₂ .1) }
+    record {
+      some = some-number (f .key) (p₂ .0);
+      short = ltb-false _ _ (p₃ .0);
+      small = ltb-false _ _ (p₄ .0);
+      room = ltb-false _ _ (p₅ .0);
+      items = ltb-false _ _ (q₁ .0);
+      disk = ltb-false _ _ (q₂ .0);
+      total = ltb-false _ _ (q₂ .1);
+    }
 
--- the answer and the bytes of an append, as the code makes them
+-- The answer and the bytes of an append, as the code makes them.
 
-offsets : (w w′ : Writer) (key value : List ℕ) (seqno stated : ℕ) → w′ ≡ grown w (length key) (length value) stated
-    → w′ .offset ≡ w .offset + length (frameBytes key seqno stated value)
-unfolding grown
-offsets w w′ key value seqno stated g = rw g (simp length-frame (omega arith))
+module _ (w : Writer) (n : ℕ) (f : Shape) (j : Judged) (e : j ≡ judged w n f) where
+  pub answer-refused : (why : AppendRefusal) → j ≡ No why → appended.Refused why w ≡ answered w n f
+  unfolding answered
+  answer-refused why h = let g = sym e ∙ h in rw g
 
-module _ (w : Writer) (s key value : List ℕ) (seqno stated : ℕ) (j : Judged) (e : j ≡ judged w (length s) (length key) (length value) stated) where
-  pub refused : (why : AppendRefusal) → j ≡ No why
-      → (appended.Refused why w ≡ appendAnswer w (length s) (length key) (length value) stated) × (s ≡ appendBytes w s key seqno stated value)
-  unfolding appendAnswer appendBytes
-  refused why h = let f = sym e ∙ h in (rw f, rw f)
+  pub answer-done : j ≡ Go → (w′ : Writer) → w′ ≡ grown w f → (p : BlobIndirection) → p ≡ pointerOf w f → (r : Appended) → r ≡ acceptedAs p w′ → r ≡ answered w n f
+  unfolding answered
+  answer-done h w′ g p k r q = let x = sym e ∙ h in q ∙ rw (x, g, k)
 
-  pub done : j ≡ Go → (w′ : Writer) → w′ ≡ grown w (length key) (length value) stated
-      → (r : Appended) → r ≡ acceptedAs (pointerOf w (length value) stated) w′
-      → (b₁ b₂ : List ℕ) → b₁ ≡ sets s (w .offset) (frameBytes key seqno stated value) → b₂ ≡ sets b₁ (w′ .offset) (endBytes (w′ .finished))
-      → (r ≡ appendAnswer w (length s) (length key) (length value) stated) × (b₂ ≡ appendBytes w s key seqno stated value)
-  unfolding appendAnswer appendBytes
-  done h w′ g r x b₁ b₂ p q =
-      let f = sym e ∙ h in
-      let a : w′ .offset ≡ w .offset + length (frameBytes key seqno stated value) = offsets w w′ key value seqno stated g in
-      (x ∙ rw (f, ← g), rw (f, ← g) (sets-then s b₁ b₂ (frameBytes key seqno stated value) (endBytes (w′ .finished)) (w .offset) (w′ .offset) p q a))
+module _ (w : Writer) (s : List ℕ) (i : Item) (f : Shape) (is : f ≡ shapeOf blobForm i) (j : Judged) (e : j ≡ judged w (length s) f) where
+  pub append-refused : (why : AppendRefusal) → j ≡ No why → (appended.Refused why w ≡ appendAnswer blobForm w s i) × (s ≡ appendBytes blobForm w s i)
+  unfolding appendBytes
+  append-refused why h =
+      let g : judged w (length s) (shapeOf blobForm i) ≡ No why = rw is at (sym e ∙ h) in
+      (answer-refused w (length s) (shapeOf blobForm i) (No why) (sym g) why refl, rw g)
+
+  -- where the frame ends
+  after : (w′ : Writer) → w′ ≡ grown w (shapeOf blobForm i) → w′ .offset ≡ w .offset + length (frameBytes i)
+  unfolding grown
+  after w′ g = let l = length-frame i in rw g (omega arith)
+
+  pub append-done : j ≡ Go → (w′ : Writer) → w′ ≡ grown w f → (p : BlobIndirection) → p ≡ pointerOf w f → (r : Appended) → r ≡ acceptedAs p w′
+      → (b₁ b₂ : List ℕ) → b₁ ≡ sets s (w .offset) (frameBytes i) → b₂ ≡ sets b₁ (w′ .offset) (endBytes (w′ .finished))
+      → (r ≡ appendAnswer blobForm w s i) × (b₂ ≡ appendBytes blobForm w s i)
+  unfolding appendBytes
+  append-done h w′ g p k r q b₁ b₂ x y =
+      let go : judged w (length s) (shapeOf blobForm i) ≡ Go = rw is at (sym e ∙ h) in
+      let g′ : w′ ≡ grown w (shapeOf blobForm i) = rw is at g in
+      let k′ : p ≡ pointerOf w (shapeOf blobForm i) = rw is at k in (
+        answer-done w (length s) (shapeOf blobForm i) Go (sym go) refl w′ g′ p k′ r q,
+        rw (go, ← g′) (sets-then s b₁ b₂ (frameBytes i) (endBytes (w′ .finished)) (w .offset) (w′ .offset) x y (after w′ g′)),
+      )
+
+-- what an append that is taken knows of its frame
+pub taken-frame : (w : Writer) (n : ℕ) (i : Item) (f : Shape) → f ≡ shapeOf blobForm i → Taken w n f
+    → (length (i .key) < 65536) × (length (i .value) < 2 ^ 32) × (w .offset + headerLength + length (i .key) + length (i .value) ≤ n)
+taken-frame w n i f e t =
+    let k : f .key ≡ length (i .key) = rw e in
+    let v : f .value ≡ length (i .value) = rw e in
+    let z : f .front ≡ headerLength = rw e in
+    let a = t .short in
+    let b = t .small in
+    let c = t .room in
+    (omega arith, omega arith, omega arith)
+
+pub taken-fits : (w : Writer) (n : ℕ) (f : Shape) → n < 2 ^ 64 → Taken w n f → Fits w f
+taken-fits w n f h t =
+    let a = t .short in
+    let b = t .small in
+    let c = t .room in
+    let d = t .items in
+    let x = t .disk in
+    let y = t .total in
+    record { key = a; value = omega arith; offset = omega arith; items = omega arith; disk = omega arith; total = omega arith }
 
 -- A plain append states the value's own length; a length that no u32 holds is refused before it is stated.
 
-long : (w : Writer) (n key value stated : ℕ) → 4294967295 < value → judged w n key value stated ≡ judged w n key value value
-unfolding judged pick
-long w n key value stated h = simp (lt-ltb _ _ h)
+module _ (w : Writer) (s : List ℕ) (key : List ℕ) (seqno stated : ℕ) (value : List ℕ) where
+  abbrev cast : Item
+  cast = itemOf key seqno stated value
 
-same-judged : (w : Writer) (n key value stated : ℕ) → stated ≡ min value 4294967295 → judged w n key value stated ≡ judged w n key value value
-same-judged w n key value stated e = by (decLt 4294967295 value)
-  where
-    by : Dec (4294967295 < value) → judged w n key value stated ≡ judged w n key value value
-    by (yes h) = long w n key value stated h
-    by (no h) = let f : stated ≡ value = omega arith in rw f
+  abbrev plain : Item
+  plain = plainOf key seqno value
 
--- where it is taken, the stated length is the value's own
-same-stated : (w : Writer) (n key value stated : ℕ) → stated ≡ min value 4294967295 → judged w n key value value ≡ Go → stated ≡ value
-same-stated w n key value stated e g = let t = taken w n key value value (judged w n key value value) refl g in omega arith
+  same : (j : Judged) → (j ≡ Go → ⊥)
+      → (answerOf j w (shapeOf blobForm cast) ≡ answerOf j w (shapeOf blobForm plain))
+      × (bytesOf j w s (shapeOf blobForm cast) (frameBytes cast) ≡ bytesOf j w s (shapeOf blobForm plain) (frameBytes plain))
+  same Go h = absurd (h refl)
+  same (No why) h = (refl, refl)
 
-same-answer : (j : Judged) (w : Writer) (key value stated : ℕ) → (j ≡ Go → stated ≡ value) → answerOf j w key value stated ≡ answerOf j w key value value
-same-answer Go w key value stated f = let e = f refl in rw e
-same-answer (No why) w key value stated f = refl
+  abbrev Same : Type 0
+  Same = (appendAnswer blobForm w s cast ≡ appendAnswer blobForm w s plain) × (appendBytes blobForm w s cast ≡ appendBytes blobForm w s plain)
 
-same-bytes : (j : Judged) (w : Writer) (s key : List ℕ) (seqno stated : ℕ) (value : List ℕ) → (j ≡ Go → stated ≡ length value)
-    → bytesOf j w s key seqno stated value ≡ bytesOf j w s key seqno (length value) value
-same-bytes Go w s key seqno stated value f = let e = f refl in rw e
-same-bytes (No why) w s key seqno stated value f = refl
+  long : 4294967295 < length value → judged w (length s) (shapeOf blobForm cast) ≡ judged w (length s) (shapeOf blobForm plain)
+  unfolding judged pick
+  long h = simp (lt-ltb _ _ h)
 
-pub plain-answer : (w : Writer) (n key value stated : ℕ) → stated ≡ min value 4294967295 → appendAnswer w n key value stated ≡ appendAnswer w n key value value
-unfolding appendAnswer
-plain-answer w n key value stated e =
-    rw (same-judged w n key value stated e) (same-answer (judged w n key value value) w key value stated (same-stated w n key value stated e))
+  no-go : 4294967295 < length value → judged w (length s) (shapeOf blobForm plain) ≡ Go → ⊥
+  no-go h g = let t = taken w (length s) (shapeOf blobForm plain) _ refl g .small in omega arith
 
-pub plain-bytes : (w : Writer) (s key : List ℕ) (seqno stated : ℕ) (value : List ℕ) → stated ≡ min (length value) 4294967295
-    → appendBytes w s key seqno stated value ≡ appendBytes w s key seqno (length value) value
-unfolding appendBytes
-plain-bytes w s key seqno stated value e =
-    rw (same-judged w (length s) (length key) (length value) stated e)
-    (same-bytes (judged w (length s) (length key) (length value) (length value)) w s key seqno stated value (same-stated w (length s) (length key) (length value) stated e))
+  pub plain-append : stated ≡ min (length value) 4294967295 → Same
+  unfolding answered appendBytes
+  plain-append e = by (decLt 4294967295 (length value))
+    where
+      by : Dec (4294967295 < length value) → Same
+      by (yes h) = rw (long h) (same (judged w (length s) (shapeOf blobForm plain)) (no-go h))
+      by (no h) = let f : stated ≡ length value = omega arith in rw f (refl, refl)
 
 module _ (w : Writer) (s : List ℕ) where
   pub finish-again : w .finished ≡ true → (closed.Refused finish.Finished w ≡ finishAnswer w (length s)) × (s ≡ finishBytes w s)
@@ -218,8 +260,8 @@ module _ (w : Writer) (s : List ℕ) where
           let l : length s < w .offset + 4 = omega arith in
           (simp (on, ne-eqb _ _ some, lt-ltb _ _ l), simp (on, ne-eqb _ _ some, lt-ltb _ _ l))
 
-      pub finish-done : 4 ≤ r → (b : List ℕ) → b ≡ sets s (w .offset) (endBytes true) → (x : Report) → x ≡ reportOf (ended w)
-          → (closed.Done (ended w) x ≡ finishAnswer w (length s)) × (b ≡ finishBytes w s)
+      pub finish-done : 4 ≤ r → (b : List ℕ) → b ≡ sets s (w .offset) (endBytes true) → (x : Report) → x ≡ reportOf (closedAs w)
+          → (closed.Done (closedAs w) x ≡ finishAnswer w (length s)) × (b ≡ finishBytes w s)
       unfolding finishAnswer finishBytes endBytes pick
       finish-done h b e x f =
           let l : w .offset + 4 ≤ length s = omega arith in

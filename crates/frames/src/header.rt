@@ -11,12 +11,15 @@ ghost use Prim.Native.Nat.{_+_, _<_, _≤_, _^_};
 ghost use lib.ListN.{length};
 ghost use lib.Seq.{sets};
 ghost use Rattle.numbers.specs.Le.{le};
-ghost use Rattle.frames.specs.Layout.{headerBytes, headerOf, starts, sameSum};
+ghost use Rattle.frames.specs.Layout.{headerLength, headerBytes, headerOf, starts, sameSum};
 
 // "BLOB" and "META", least byte first.
 pub(crate) const BLOB: u32 = 0x424f_4c42;
 
 pub(crate) const META: u32 = 0x4154_454d;
+
+// As in the Rust: the mark and the numbers before the key.
+pub(crate) const BLOB_HEADER_LEN: usize = 38;
 
 pub(crate) struct Header {
     pub sum: Hash128,
@@ -55,7 +58,7 @@ pub(crate) fn read_header(p: &[u8]) -> Header
 }
 
 pub(crate) fn put_header(buf: &mut [u8], at: usize, h: Header)
-    requires { ⌜ at + 38 < 2 ^ 64 ⌝ }
+    requires { ⌜ at + headerLength < 2 ^ 64 ⌝ }
     ensures { λ _. ⌜ now (buf .exit) ≡ sets (now (buf .entry)) at (headerBytes h) ⌝ }
 {
     put_u32(buf, at, BLOB);

@@ -4,4 +4,5 @@ pub mod held;
 pub mod place;
 pub mod reader;
 pub mod scanner;
+pub mod shape;
 pub mod writer;

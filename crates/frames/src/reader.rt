@@ -1,5 +1,6 @@
 // The point read: a value's part of the file, found by a handle.
 use super::header::BLOB;
+use super::header::BLOB_HEADER_LEN;
 use super::header::marked;
 use super::header::read_header;
 use super::header::same_sum;
@@ -15,7 +16,8 @@ use numbers::handle::ValueHandle;
 ghost use mathlib.Core.Path.{_≡_};
 ghost use Prim.Native.Nat.{_+_, _<_, _≤_, _^_};
 ghost use lib.ListN.{length};
-ghost use Rattle.frames.specs.Point.{told, cutTold, summed, takenSum, withinOf, toldOf, shown, valueIn};
+ghost use Rattle.frames.specs.Layout.{headerLength};
+ghost use Rattle.frames.specs.Point.{told, cutTold, summed, takenSum, withinOf, readOf, shown, valueIn};
 
 // What a read found: the refusal's number, or 0; where the value lies; both sums, of a frame that was hashed; and, for 7, what was cut short.
 pub struct Told {
@@ -84,32 +86,32 @@ fn judged(value: Place, stored: Hash128, computed: Hash128) -> Told
 
 // The sum over the header's key, hk bytes, and what stands past the given key's length; in one part where the two lengths are the same.
 fn taken_sum(t: &[u8], hk: usize, k: usize) -> Hash128
-    requires { ⌜ 38 + k ≤ length (now t) ⌝ }
+    requires { ⌜ headerLength + k ≤ length (now t) ⌝ }
     ensures { λ r. ⌜ r ≡ takenSum (now (t .entry)) hk k ⌝ }
 {
     if hk == k {
-        return xxh3_128(tail(t, 38));
+        return xxh3_128(tail(t, BLOB_HEADER_LEN));
     }
-    let key = part(t, 38, hk);
-    let value = tail(t, 38 + k);
+    let key = part(t, BLOB_HEADER_LEN, hk);
+    let value = tail(t, BLOB_HEADER_LEN + k);
     xxh3_128_joined(key, value)
 }
 
 // t is what was taken of the file at `at`; k is the given key's length and size the on-disk length.
 fn within(t: &[u8], at: usize, k: usize, size: usize) -> Told
-    requires { ⌜ (length (now t) ≡ 38 + k + size) × (at + length (now t) < 2 ^ 64) ⌝ }
+    requires { ⌜ (length (now t) ≡ headerLength + k + size) × (at + length (now t) < 2 ^ 64) ⌝ }
     ensures { λ r. ⌜ r ≡ withinOf (now (t .entry)) at k size ⌝ }
 {
     if marked(t, BLOB) {
         let h = read_header(t);
         let hk = h.key as usize;
         if k + size < hk {
-            return cut_short(at + 38, hk, k + size);
+            return cut_short(at + BLOB_HEADER_LEN, hk, k + size);
         }
         let computed = taken_sum(t, hk, k);
         let stored = h.sum;
         let value = Place {
-            at: at + 38 + k,
+            at: at + BLOB_HEADER_LEN + k,
             len: size,
         };
         return judged(value, stored, computed);
@@ -119,12 +121,12 @@ fn within(t: &[u8], at: usize, k: usize, size: usize) -> Told
 
 // What reading a handle's value finds. The handle's file id is not looked at: which file it names is the caller's to know.
 pub fn look(file: &[u8], key: &[u8], handle: ValueHandle) -> Told
-    ensures { λ r. ⌜ r ≡ toldOf (now (file .entry)) (length (now (key .entry))) handle ⌝ }
+    ensures { λ r. ⌜ r ≡ readOf (now (file .entry)) (now (key .entry)) handle ⌝ }
 {
     let at = handle.offset as usize;
     let k = key.len();
     let size = handle.size as usize;
-    let n = 38 + k + size;
+    let n = BLOB_HEADER_LEN + k + size;
     let left = room(file.len(), at);
     if left < n {
         return cut_short(at, n, left);
@@ -148,8 +150,8 @@ pub fn read<'a, 'b, 'c>(
     handle: ValueHandle,
     told: &'c mut Told,
 ) -> &'a [u8]
-    ensures { λ r. ⌜ (shown r ≡ valueIn (file .entry) (toldOf (now (file .entry)) (length (now (key .entry))) handle))
-        × (now (told .exit) ≡ toldOf (now (file .entry)) (length (now (key .entry))) handle) ⌝ }
+    ensures { λ r. ⌜ (shown r ≡ valueIn (file .entry) (readOf (now (file .entry)) (now (key .entry)) handle))
+        × (now (told .exit) ≡ readOf (now (file .entry)) (now (key .entry)) handle) ⌝ }
 {
     let t = look(file, key, handle);
     *told = t;

@@ -1,5 +1,6 @@
 // The scan: one step over lent bytes, with and without the test of the sum.
 use super::header::BLOB;
+use super::header::BLOB_HEADER_LEN;
 use super::header::META;
 use super::header::marked;
 use super::header::read_header;
@@ -180,17 +181,17 @@ impl Scanner {
     {
         let at = self.at;
         let p = tail(file, at);
-        if p.len() < 38 {
+        if p.len() < BLOB_HEADER_LEN {
             return self.cut_short(at + 4, 34, p.len() - 4);
         }
         let h = read_header(p);
-        let left = p.len() - 38;
+        let left = p.len() - BLOB_HEADER_LEN;
         let k = h.key as usize;
         if left < k {
-            return self.cut_short(at + 38, k, left);
+            return self.cut_short(at + BLOB_HEADER_LEN, k, left);
         }
         let v = h.size as usize;
-        let middle = at + 38 + k;
+        let middle = at + BLOB_HEADER_LEN + k;
         if left - k < v {
             return self.cut_short(middle, v, left - k);
         }
@@ -199,7 +200,7 @@ impl Scanner {
             ScanEntry {
                 offset: at,
                 key: Place {
-                    at: at + 38,
+                    at: at + BLOB_HEADER_LEN,
                     len: k,
                 },
                 seqno: h.seqno,

@@ -1,8 +1,10 @@
 // The frame writer and its rotation: a state by value over lent bytes.
+use super::header::BLOB_HEADER_LEN;
 use super::header::Header;
 use super::header::META;
 use super::header::put_header;
 use super::place::Place;
+use super::shape::Shape;
 use hash::Hash128;
 use hash::xxh3_128;
 use numbers::bytes::copy;
@@ -17,10 +19,11 @@ ghost use Prim.Native.Nat.{_+_, _<_, _≤_, _^_};
 ghost use lib.ListN.{length, take, drop};
 ghost use lib.Seq.{sets};
 ghost use Rattle.hash.specs.XXH3.{xxh3-128};
-ghost use Rattle.frames.specs.Layout.{frameBytes};
+ghost use Rattle.frames.specs.Layout.{headerLength, frameBytes};
+ghost use Rattle.frames.specs.Shape.{itemOf, plainOf, blobForm};
 ghost use Rattle.frames.specs.Refusals.{appendNumber, finishNumber, nextNumber};
-ghost use Rattle.frames.specs.Write.{newWriter, targeted, judged, overOf, firstOf, grown, reportOf, endBytes, acceptedAs, appendAnswer, appendBytes, finishAnswer, finishBytes, nextOf};
-ghost use Rattle.frames.specs.WriteLaws.{Fits};
+ghost use Rattle.frames.specs.Write.{newWriter, targeted, judged, overOf, keyPlace, firstOf, grown, pointerOf, reportOf, endBytes, acceptedAs};
+ghost use Rattle.frames.specs.Write.{Fits, answered, appendAnswer, appendBytes, finishAnswer, finishBytes, nextOf};
 
 const MOST: u64 = 0xffff_ffff_ffff_ffff;
 
@@ -137,12 +140,13 @@ fn part_sum(s: &[u8], at: usize, len: usize) -> Hash128
 
 // Key and value first; then the header, with the sum of both where they lie.
 fn put_frame(buf: &mut [u8], at: usize, key: &[u8], seqno: u64, stated: u32, value: &[u8])
-    requires { ⌜ (length (now key) < 65536) × (length (now value) < 2 ^ 32) × (at + 38 + length (now key) + length (now value) ≤ length (now buf)) ⌝ }
-    ensures { λ _. ⌜ now (buf .exit) ≡ sets (now (buf .entry)) at (frameBytes (now (key .entry)) seqno stated (now (value .entry))) ⌝ }
+    requires { ⌜ (length (now key) < 65536) × (length (now value) < 2 ^ 32)
+        × (at + headerLength + length (now key) + length (now value) ≤ length (now buf)) ⌝ }
+    ensures { λ _. ⌜ now (buf .exit) ≡ sets (now (buf .entry)) at (frameBytes (itemOf (now (key .entry)) seqno stated (now (value .entry)))) ⌝ }
 {
     let k = key.len();
     let v = value.len();
-    let body = at + 38;
+    let body = at + BLOB_HEADER_LEN;
     copy(buf, body, key);
     copy(buf, body + k, value);
     let sum = part_sum(buf, body, k + v);
@@ -165,17 +169,17 @@ fn put_end(buf: &mut [u8], at: usize, finished: bool)
     }
 }
 
-// Whether a total would pass its width.
-fn over(items: u64, disk: u64, total: u64, value: u64, stated: u64) -> bool
-    ensures { λ r. ⌜ r ≡ overOf items disk total value stated ⌝ }
+// The lengths of a frame of ours.
+fn blob_shape(key: usize, value: usize, stated: u32) -> Shape
+    ensures { λ r. ⌜ r ≡ record { front = headerLength; key = key; value = value; back = 0; stated = stated } ⌝ }
 {
-    if MOST <= items {
-        return true;
+    Shape {
+        front: BLOB_HEADER_LEN as u16,
+        key,
+        value,
+        back: 0,
+        stated,
     }
-    if MOST - disk < value {
-        return true;
-    }
-    MOST - total < stated
 }
 
 // Where the first key lies, once one more is written.
@@ -235,57 +239,94 @@ impl Writer {
         }
     }
 
-    fn judge(self, n: usize, key: usize, value: usize, stated: u32) -> Judged
-        ensures { λ r. ⌜ r ≡ judged self n key value stated ⌝ }
+    // Whether a total would pass its width.
+    fn over(self, shape: Shape) -> bool
+        ensures { λ r. ⌜ r ≡ overOf self shape ⌝ }
+    {
+        if MOST <= self.items {
+            return true;
+        }
+        if MOST - self.disk < shape.value as u64 {
+            return true;
+        }
+        MOST - self.stated < shape.stated as u64
+    }
+
+    fn judge(self, n: usize, shape: Shape) -> Judged
+        ensures { λ r. ⌜ r ≡ judged self n shape ⌝ }
     {
         if self.finished {
             return Judged::No(AppendRefusal::Finished);
         }
-        if key == 0 {
+        if shape.key == 0 {
             return Judged::No(AppendRefusal::BadKey);
         }
-        if 65535 < key {
+        if 65535 < shape.key {
             return Judged::No(AppendRefusal::BadKey);
         }
-        if 4294967295 < value {
+        if 4294967295 < shape.value {
             return Judged::No(AppendRefusal::ValueTooLong);
         }
-        if room(n, self.offset) < 38 + key + value + 4 {
+        if room(n, self.offset) < shape.size() + 4 {
             return Judged::No(AppendRefusal::NoRoom);
         }
-        if over(
-            self.items,
-            self.disk,
-            self.stated,
-            value as u64,
-            stated as u64,
-        ) {
+        if self.over(shape) {
             return Judged::No(AppendRefusal::SumTooBig);
         }
         Judged::Go
     }
 
     // The state after an append that is taken.
-    fn grow(self, key: usize, value: usize, stated: u32) -> Writer
-        requires { ⌜ Fits self key value stated ⌝ }
-        ensures { λ r. ⌜ r ≡ grown self key value stated ⌝ }
+    fn grow(self, shape: Shape) -> Writer
+        requires { ⌜ Fits self shape ⌝ }
+        ensures { λ r. ⌜ r ≡ grown self shape ⌝ }
     {
         let here = Place {
-            at: self.offset + 38,
-            len: key,
+            at: self.offset + shape.front as usize,
+            len: shape.key,
         };
-        let offset = self.offset + 38 + key + value;
+        let offset = self.offset + shape.size();
         let first = first_of(self.items, here, self.first);
         Writer {
             id: self.id,
             offset,
             items: self.items + 1,
-            disk: self.disk + (value as u64),
-            stated: self.stated + (stated as u64),
+            disk: self.disk + (shape.value as u64),
+            stated: self.stated + (shape.stated as u64),
             target: self.target,
             finished: self.target <= offset as u64,
             first,
             last: here,
+        }
+    }
+
+    // What an append that is taken hands out.
+    fn pointer(self, shape: Shape) -> BlobIndirection
+        requires { ⌜ shape .value < 2 ^ 32 ⌝ }
+        ensures { λ r. ⌜ r ≡ pointerOf self shape ⌝ }
+    {
+        let handle = ValueHandle {
+            offset: self.offset as u64,
+            file: self.id,
+            size: shape.value as u32,
+        };
+        BlobIndirection {
+            handle,
+            stated: shape.stated,
+        }
+    }
+
+    // What an append answers by lengths alone: those of the frame, and n, the buffer's. Nothing is written.
+    pub fn answer(self, n: usize, shape: Shape) -> Appended
+        ensures { λ r. ⌜ r ≡ answered self n shape ⌝ }
+    {
+        let j = self.judge(n, shape);
+        match j {
+            Judged::No(why) => Appended::Refused(why, self),
+            Judged::Go => {
+                let w = self.grow(shape);
+                accepted(self.pointer(shape), w)
+            }
         }
     }
 
@@ -298,33 +339,28 @@ impl Writer {
         stated: u32,
         value: &[u8],
     ) -> Appended
-        ensures { λ r. ⌜ (r ≡ appendAnswer self (length (now (buf .entry))) (length (now (key .entry))) (length (now (value .entry))) stated)
-            × (now (buf .exit) ≡ appendBytes self (now (buf .entry)) (now (key .entry)) seqno stated (now (value .entry))) ⌝ }
+        ensures { λ r. ⌜ (r ≡ appendAnswer blobForm self (now (buf .entry)) (itemOf (now (key .entry)) seqno stated (now (value .entry))))
+            × (now (buf .exit) ≡ appendBytes blobForm self (now (buf .entry)) (itemOf (now (key .entry)) seqno stated (now (value .entry)))) ⌝ }
     {
-        let j = self.judge(buf.len(), key.len(), value.len(), stated);
+        let shape = blob_shape(key.len(), value.len(), stated);
+        let j = self.judge(buf.len(), shape);
         match j {
             Judged::No(why) => Appended::Refused(why, self),
             Judged::Go => {
-                let at = self.offset;
-                put_frame(buf, at, key, seqno, stated, value);
-                let w = self.grow(key.len(), value.len(), stated);
+                put_frame(buf, self.offset, key, seqno, stated, value);
+                let w = self.grow(shape);
                 put_end(buf, w.offset, w.finished);
-                let handle = ValueHandle {
-                    offset: at as u64,
-                    file: self.id,
-                    size: value.len() as u32,
-                };
-                accepted(BlobIndirection { handle, stated }, w)
+                accepted(self.pointer(shape), w)
             }
         }
     }
 
     // A frame that states its value's own length.
     pub fn append(self, buf: &mut [u8], key: &[u8], seqno: u64, value: &[u8]) -> Appended
-        ensures { λ r. ⌜ (r ≡ appendAnswer self (length (now (buf .entry))) (length (now (key .entry))) (length (now (value .entry))) (length (now (value .entry))))
-            × (now (buf .exit) ≡ appendBytes self (now (buf .entry)) (now (key .entry)) seqno (length (now (value .entry))) (now (value .entry))) ⌝ }
+        ensures { λ r. ⌜ (r ≡ appendAnswer blobForm self (now (buf .entry)) (plainOf (now (key .entry)) seqno (now (value .entry))))
+            × (now (buf .exit) ≡ appendBytes blobForm self (now (buf .entry)) (plainOf (now (key .entry)) seqno (now (value .entry)))) ⌝ }
     {
-        // a longer value is refused before its stated length is looked at
+        // a longer value is refused before its length is stated
         let stated = lesser(value.len(), 4294967295) as u32;
         self.append_raw(buf, key, seqno, stated, value)
     }
@@ -360,7 +396,6 @@ impl Writer {
         if MOST <= self.id {
             return Opened::Refused(NextRefusal::IdsUsedUp, self);
         }
-        let w = Writer::new(self.id + 1).use_target_size(self.target);
-        Opened::Next(w)
+        Opened::Next(Writer::new(self.id + 1).use_target_size(self.target))
     }
 }

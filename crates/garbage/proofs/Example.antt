@@ -10,8 +10,8 @@ use Rattle.numbers.specs.Pick.{pick}
 use Rattle.numbers.specs.Le.{le}
 use Rattle.numbers.specs.declared.handle.BlobIndirection.{BlobIndirection}
 use Rattle.frames.specs.Layout.{headerBytes, frameBytes}
-use Rattle.frames.specs.Write.{reportOf, overOf, judged, grown, acceptedAs, endBytes, appendAnswer, appendBytes, finishAnswer}
-use Rattle.frames.specs.Runs.{appendRun, finishRun, called, run}
+use Rattle.frames.specs.Write.{reportOf, overOf, judged, grown, acceptedAs, endBytes, answered, appendBytes, finishAnswer}
+use Rattle.frames.specs.Runs.{appendRun, finishRun, called, runBy}
 use Rattle.garbage.specs.declared.verdict.DeadVerdict.the-variants.{Dead, Wanted, NoEntry}
 use Rattle.garbage.specs.Entries.{joined, addedAll, fits, allFit}
 use Rattle.garbage.specs.Tallies.{AllTyped}
@@ -32,7 +32,7 @@ module _ (id : ℕ) (small : id < 2 ^ 64) where
   comes :
       (runOf (threeAndNone id) .writer .finished ≡ true)
       × (fileOf (threeAndNone id) .frames ≡ record { pointer = three id; gone = true } ∷ record { pointer = empty; gone = false } ∷ [])
-  unfolding run called appendRun appendAnswer appendBytes finishRun finishAnswer judged overOf grown acceptedAs frameBytes headerBytes endBytes le pick
+  unfolding runBy called appendRun answered appendBytes finishRun finishAnswer judged overOf grown acceptedAs frameBytes headerBytes endBytes le pick
   comes = (refl, refl)
 
   gone : allGone (filesOf (threeAndNone id ∷ [])) ≡ three id ∷ []

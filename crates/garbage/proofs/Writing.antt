@@ -9,8 +9,10 @@ use Rattle.numbers.specs.Pick.{pick}
 use Rattle.numbers.specs.declared.handle.BlobIndirection.{BlobIndirection}
 use Rattle.frames.specs.declared.writer.Report.{Report}
 use Rattle.frames.specs.Write.{reportOf, endBytes}
-use Rattle.frames.specs.Runs.{Frame as Accepted, bytesFor, allBytes}
-use Rattle.frames.specs.Ran.{Put, Laid, statedSum, Ran}
+use Rattle.frames.specs.Shape.{blobForm, shapeOf, sizeOf}
+use Rattle.frames.specs.Runs.{Frame as Accepted, allBytes}
+use Rattle.frames.specs.Ran.{Laid, statedSum, Ran}
+use Rattle.frames.specs.GrownLaws.{blob-sized}
 use Rattle.frames.specs.RunLaws as run
 use Rattle.garbage.specs.Tallies.{Typed, AllTyped}
 use Rattle.garbage.specs.Files.{Frame, File, goneOf, allGone, statedOf, Own, Finished, AllFinished, Distinct, In}
@@ -22,46 +24,50 @@ use Rattle.garbage.specs.Theorems.{WrittenSameBytes, WrittenDeadExactly}
 use Rattle.garbage.proofs.Dealing.{same-bytes, dead-exactly}
 
 -- ---- one file
-module _ (id most : ℕ) (small : id < 2 ^ 64) (m : most < 2 ^ 64) where
-  own : (offset : ℕ) (fs : List Accepted) (gone : List Bool) → Laid id offset fs → offset + length (allBytes fs) ≤ most → Own id (withDrops fs gone)
-  unfolding allBytes
-  own offset [] gone l h = tt
-  own offset (f ∷ fs) [] l h = one offset f fs l h (own (offset + length (bytesFor f)) fs [] (l .1))
-    where
-      one : (offset : ℕ) (f : Accepted) (fs : List Accepted) → Laid id offset (f ∷ fs) → offset + length (bytesFor f ++ allBytes fs) ≤ most
-          → (offset + length (bytesFor f) + length (allBytes fs) ≤ most → Own id (withDrops fs [])) → Own id (withDrops (f ∷ fs) [])
-      one offset f fs l h k =
-          let n = length-append (bytesFor f) (allBytes fs) in
-          let p = l .0 .pointer in
-          (rw p, (rw p (omega arith), rw p small, rw p (omega (arith, l .0 .value)), rw p (l .0 .stated)), k (omega arith))
-  own offset (f ∷ fs) (b ∷ gone) l h = one offset f fs l h (own (offset + length (bytesFor f)) fs gone (l .1))
-    where
-      one : (offset : ℕ) (f : Accepted) (fs : List Accepted) → Laid id offset (f ∷ fs) → offset + length (bytesFor f ++ allBytes fs) ≤ most
-          → (offset + length (bytesFor f) + length (allBytes fs) ≤ most → Own id (withDrops fs gone)) → Own id (withDrops (f ∷ fs) (b ∷ gone))
-      one offset f fs l h k =
-          let n = length-append (bytesFor f) (allBytes fs) in
-          let p = l .0 .pointer in
-          (rw p, (rw p (omega arith), rw p small, rw p (omega (arith, l .0 .value)), rw p (l .0 .stated)), k (omega arith))
+-- a frame's bytes, and where the next frame lies
+abbrev bytesFor : Accepted → List ℕ
+bytesFor f = blobForm .bytes (f .item)
 
-stated-is : (id offset : ℕ) (fs : List Accepted) (gone : List Bool) → Laid id offset fs → statedSum fs ≡ statedOf (withDrops fs gone)
+abbrev behind : ℕ → Accepted → ℕ
+behind offset f = offset + sizeOf (shapeOf blobForm (f .item))
+
+module _ (id most : ℕ) (small : id < 2 ^ 64) (m : most < 2 ^ 64) where
+  one : (offset : ℕ) (f : Accepted) (fs : List Accepted) (b : Bool) (rest : List Frame) → Laid blobForm id offset (f ∷ fs) → offset + length (allBytes blobForm (f ∷ fs)) ≤ most
+      → (behind offset f + length (allBytes blobForm fs) ≤ most → Own id rest) → Own id (record { pointer = f .pointer; gone = b } ∷ rest)
+  unfolding allBytes
+  one offset f fs b rest l h k =
+      let n = length-append (bytesFor f) (allBytes blobForm fs) in
+      let z = blob-sized (f .item) in
+      let p = l .0 .pointer in
+      (rw p, (rw p (omega arith), rw p small, rw p (omega (arith, l .0 .value)), rw p (l .0 .stated)), k (omega arith))
+
+  own : (offset : ℕ) (fs : List Accepted) (gone : List Bool) → Laid blobForm id offset fs → offset + length (allBytes blobForm fs) ≤ most → Own id (withDrops fs gone)
+  own offset [] gone l h = tt
+  own offset (f ∷ fs) [] l h = one offset f fs false (withDrops fs []) l h (own (behind offset f) fs [] (l .1))
+  own offset (f ∷ fs) (b ∷ gone) l h = one offset f fs b (withDrops fs gone) l h (own (behind offset f) fs gone (l .1))
+
+stated-is : (id offset : ℕ) (fs : List Accepted) (gone : List Bool) → Laid blobForm id offset fs → statedSum fs ≡ statedOf (withDrops fs gone)
 unfolding statedSum statedOf
 stated-is id offset [] gone l = refl
-stated-is id offset (f ∷ fs) [] l = ap₂ _+_ (sym (ap (λ (p : BlobIndirection). p .stated) (l .0 .pointer))) (stated-is id (offset + length (bytesFor f)) fs [] (l .1))
-stated-is id offset (f ∷ fs) (b ∷ gone) l = ap₂ _+_ (sym (ap (λ (p : BlobIndirection). p .stated) (l .0 .pointer))) (stated-is id (offset + length (bytesFor f)) fs gone (l .1))
+stated-is id offset (f ∷ fs) [] l = ap₂ _+_ (sym (ap (λ (p : BlobIndirection). p .stated) (l .0 .pointer))) (stated-is id (behind offset f) fs [] (l .1))
+stated-is id offset (f ∷ fs) (b ∷ gone) l = ap₂ _+_ (sym (ap (λ (p : BlobIndirection). p .stated) (l .0 .pointer))) (stated-is id (behind offset f) fs gone (l .1))
 
 module _ (f : Written) (z : FromZero f) where
-  ran : Ran (f .writer) (f .buffer) (runOf f)
-  ran = run.ran (f .calls) (f .writer) (f .buffer) (z .unfinished) (z .typed)
+  ran : Ran blobForm (f .writer) (f .buffer) (runOf f)
+  ran = run.ran blobForm blob-sized (f .calls) (f .writer) (f .buffer) (z .unfinished) (z .typed)
 
-  inside : f .writer .offset + length (allBytes (runOf f .frames)) ≤ length (f .buffer)
+  inside : f .writer .offset + length (allBytes blobForm (runOf f .frames)) ≤ length (f .buffer)
   inside =
       let h = ran .fits (omega (arith, z .offset)) in
-      omega (arith, h, length-append (allBytes (runOf f .frames)) (endBytes (runOf f .writer .finished)))
+      omega (arith, h, length-append (allBytes blobForm (runOf f .frames)) (endBytes (runOf f .writer .finished)))
 
   pub finished : Finished (fileOf f)
   finished = record {
     own = own (f .writer .id) (length (f .buffer)) (z .id) (z .room) (f .writer .offset) (runOf f .frames) (f .gone) (ran .laid) inside;
-    total = ran .stated ∙ ap (λ (n : ℕ). n + statedSum (runOf f .frames)) (z .stated) ∙ (let e : 0 + statedSum (runOf f .frames) ≡ statedSum (runOf f .frames) = omega arith in e) ∙ stated-is (f .writer .id) (f .writer .offset) (runOf f .frames) (f .gone) (ran .laid);
+    total =
+        (let t = run.ran-stated blobForm blob-sized (f .writer) (f .buffer) (runOf f) ran in
+        let e : runOf f .writer .stated ≡ statedSum (runOf f .frames) = omega (arith, t, z .stated) in e)
+        ∙ stated-is (f .writer .id) (f .writer .offset) (runOf f .frames) (f .gone) (ran .laid);
   }
 
   pub one-report : runOf f .reports ≡ reportOf (runOf f .writer) ∷ []

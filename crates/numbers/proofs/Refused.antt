@@ -13,7 +13,7 @@ use lib.Seq.{getD-drop, length-take-le}
 use borrow.Author.Tests.{le-ltb, ltb-true, ltb-false, leb-true, leb-false}
 use Rattle.numbers.specs.Pick.{pick}
 use Rattle.numbers.specs.Leb128.{shortest, inGroups, valueOf, carried, Reading, number, refused, readIn, groups}
-use Rattle.numbers.specs.Leb128Laws.{length-some, length-most, carried-end, carried-stop, carried-on, read-at}
+use Rattle.numbers.specs.Leb128Laws.{length-some, length-most, carried-stop, carried-on, read-at}
 use Rattle.numbers.specs.GroupLaws.{Again, again, shortest-holds, value-below, reads-over}
 use Rattle.numbers.specs.Theorems.{CarryOn, CutExactly, TooLongExactly}
 use Rattle.numbers.specs.declared.cut.CutShort.{CutShort}

@@ -1,6 +1,7 @@
 -- Numbers as bytes, least first, at any width.
-use Prim.Native.Nat.{ℕ, zero, suc, _+_, _*_, _/_, _%_}
+use Prim.Native.Nat.{ℕ, zero, suc, _+_, _*_, _/_, _%_, _<_}
 use mathlib.Core.List.{List, [], _∷_}
+use lib.ListN.{getD}
 
 -- the low n bytes of x
 unfoldable pub le : ℕ → ℕ → List ℕ
@@ -12,3 +13,7 @@ unfoldable pub num : ℕ → List ℕ → ℕ
 num zero l = 0
 num (suc n) [] = 0
 num (suc n) (b ∷ bs) = b + 256 * num n bs
+
+-- a list of bytes
+abbrev pub Octets : List ℕ → Type 0
+Octets l = (k : ℕ) → getD l k 0 < 256

@@ -1,13 +1,13 @@
 -- Laws of numbers as bytes and of runs of stores, for callers to cite.
-use Prim.Native.Nat.{ℕ, zero, suc, _+_, _*_, _/_, _^_, _<_, _≤_}
+use Prim.Native.Nat.{ℕ, zero, suc, _+_, _*_, _/_, _%_, _^_, _<_, _≤_}
 use mathlib.Core.Path.{_≡_, refl, ap, _∙_}
 use mathlib.Core.List.{List, [], _∷_, _++_}
 use native.Mathlib.Omega.{arith}
-use lib.ListN.{length, drop, getD, set}
-use lib.Seq.{sets, set-out}
+use lib.ListN.{length, take, drop, getD, set}
+use lib.Seq.{sets, set-out, getD-drop}
 use lib.Dec.{lit<}
 use native.Mathlib.Nat.{add-zero, div-lt-iff-lt-mul, div-add-mod, pow-suc}
-use Rattle.numbers.specs.Le.{le, num}
+use Rattle.numbers.specs.Le.{le, num, Octets}
 
 pub length-le : (n x : ℕ) → length (le n x) ≡ n
 unfolding le
@@ -48,6 +48,21 @@ num-le zero x rest h = omega arith
 num-le (suc n) x rest h =
     let e : num n (le n (x / 256) ++ rest) ≡ x / 256 = num-le n (x / 256) rest (div-lt-iff-lt-mul (lit< tt) .1 (rw pow-suc at h)) in
     rw e (omega (arith, div-add-mod x 256))
+
+-- and of bytes that are there, the other way round
+pub le-num : (n : ℕ) (l : List ℕ) → n ≤ length l → Octets l → le n (num n l) ≡ take n l
+unfolding num le
+le-num zero l h f = refl
+le-num (suc n) [] h f = absurd (omega arith)
+le-num (suc n) (b ∷ l) h f =
+    let e : le n (num n l) ≡ take n l = le-num n l (omega arith) (λ (k : ℕ). f (suc k)) in
+    let d : (b + 256 * num n l) / 256 ≡ num n l = let z = f 0 in omega arith in
+    let m : (b + 256 * num n l) % 256 ≡ b = let z = f 0 in omega arith in
+    rw (m, d, e)
+
+-- bytes of a list are bytes from any place on
+pub octets-drop : (n : ℕ) (l : List ℕ) → Octets l → Octets (drop n l)
+octets-drop n l f = λ (k : ℕ). rw (getD-drop n l k 0) (f (n + k))
 
 -- a run of stores that goes on where the one before it stopped
 pub sets-then : (b₀ b b′ a v : List ℕ) (at i : ℕ) → b ≡ sets b₀ at a → b′ ≡ sets b i v → i ≡ at + length a → b′ ≡ sets b₀ at (a ++ v)

@@ -3,8 +3,9 @@ use Prim.Native.Nat.{ℕ, zero, suc, _+_, _-_, _^_, _≤_, _<_}
 use mathlib.Core.Path.{_≡_, refl, sym, ap, _∙_}
 use mathlib.Core.List.{List, _++_, append-assoc}
 use native.Mathlib.Omega.{arith}
-use lib.ListN.{length, getD, take, drop, length-append, length-take}
+use lib.ListN.{length, take, drop, length-append, length-take}
 use lib.Seq.{sets-eq, drop-at, drop-drop, drop-append-seam, getD-drop, take-add}
+use Rattle.numbers.specs.Le.{Octets}
 use Rattle.numbers.specs.Wrote.{wroteOf, placed}
 use Rattle.numbers.specs.WroteLaws.{wrote-used}
 use Rattle.numbers.specs.Leb128.{shortest, inGroups, number, readIn, groups, readOf}
@@ -51,7 +52,7 @@ none-shorter w at value used s e =
     let l : length (shortest value) ≤ suc k = length-most k value (rw u (found-below (groups w) (2 ^ w) (drop at s) value used f)) in
     omega arith
 
-pub writes-back : (w at value used : ℕ) (s : List ℕ) → ((k : ℕ) → getD s k 0 < 256) → readOf w at s ≡ number value used → used ≡ length (shortest value)
+pub writes-back : (w at value used : ℕ) (s : List ℕ) → Octets s → readOf w at s ≡ number value used → used ≡ length (shortest value)
     → take used (drop at s) ≡ shortest value
 writes-back w at value used s b e u =
     found-groups (groups w) (2 ^ w) (drop at s) value used (λ k. rw (getD-drop at s k 0) (b (at + k))) (found (groups w) (2 ^ w) at (drop at s) value used e)
@@ -84,7 +85,7 @@ indirection-back i at s rest p q r t e =
     (ap (indirection.Indirection i) (sym (length-append a b)))
 
 -- a handle read from as few bytes as it is written in
-pub handle-again : (at : ℕ) (s : List ℕ) (h : ValueHandle) (used : ℕ) → ((k : ℕ) → getD s k 0 < 256) → handleOf at s ≡ handle.Handle h used
+pub handle-again : (at : ℕ) (s : List ℕ) (h : ValueHandle) (used : ℕ) → Octets s → handleOf at s ≡ handle.Handle h used
     → used ≡ length (handleBytes h) → take used (drop at s) ≡ handleBytes h
 unfolding handleBytes
 handle-again at s h used b e u =
@@ -112,7 +113,7 @@ handle-least at s h used e =
     let i₃ = none-shorter 32 (at + r .n + r .m) (h .size) (r .k) s (r .size) in
     omega (arith, length-handle h, r .all)
 
-pub indirection-again : (at : ℕ) (s : List ℕ) (i : BlobIndirection) (used : ℕ) → ((k : ℕ) → getD s k 0 < 256) → indirectionOf at s ≡ indirection.Indirection i used
+pub indirection-again : (at : ℕ) (s : List ℕ) (i : BlobIndirection) (used : ℕ) → Octets s → indirectionOf at s ≡ indirection.Indirection i used
     → used ≡ length (indirectionBytes i) → take used (drop at s) ≡ indirectionBytes i
 unfolding indirectionBytes
 indirection-again at s i used b e u =

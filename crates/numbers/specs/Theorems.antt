@@ -4,6 +4,7 @@ use mathlib.Core.Path.{_≡_}
 use mathlib.Core.List.{List, _++_}
 use mathlib.Core.Logic.{_⊎_, _↔_}
 use lib.ListN.{length, getD, take, drop}
+use Rattle.numbers.specs.Le.{Octets}
 use Rattle.numbers.specs.Wrote.{wroteOf, placed}
 use Rattle.numbers.specs.Leb128.{shortest, inGroups, number, refused, groups, readOf}
 use Rattle.numbers.specs.Handle.{handleBytes, indirectionBytes, handleOf, indirectionOf}
@@ -32,13 +33,13 @@ PaddedReads =
 -- nothing else reads: what reads as a number is one of its spellings
 abbrev pub OnlySpellings : Type 0
 OnlySpellings =
-    (w at x n : ℕ) (s : List ℕ) → ((k : ℕ) → getD s k 0 < 256) → readOf w at s ≡ number x n
+    (w at x n : ℕ) (s : List ℕ) → Octets s → readOf w at s ≡ number x n
     → (take n (drop at s) ≡ inGroups n x) × (length (shortest x) ≤ n) × (n ≤ groups w) × (x < 2 ^ w)
 
 -- writing what a shortest spelling reads as gives that spelling: one group, or a last group that is not zero
 abbrev pub ReadWrites : Type 0
 ReadWrites =
-    (w at x n : ℕ) (s : List ℕ) → ((k : ℕ) → getD s k 0 < 256) → readOf w at s ≡ number x n → (n ≡ 1) ⊎ (0 < getD s (at + (n - 1)) 0)
+    (w at x n : ℕ) (s : List ℕ) → Octets s → readOf w at s ≡ number x n → (n ≡ 1) ⊎ (0 < getD s (at + (n - 1)) 0)
     → shortest x ≡ take n (drop at s)
 
 -- the first n bytes are there, and each says that another follows (a byte that is not there counts 0)
@@ -57,7 +58,7 @@ CutExactly =
 -- 10 exactly where as many bytes as the width takes all say that another follows, or the bytes begin with a spelling of a number that passes the width
 abbrev pub TooLongExactly : Type 0
 TooLongExactly =
-    (w at : ℕ) (s : List ℕ) → ((k : ℕ) → getD s k 0 < 256)
+    (w at : ℕ) (s : List ℕ) → Octets s
     → (readOf w at s ≡ refused refusal.TooLong)
     ↔ (CarryOn (groups w) (drop at s)
     ⊎ ((n : ℕ) × (x : ℕ) × (take n (drop at s) ≡ inGroups n x) × (length (shortest x) ≤ n) × (n ≤ groups w) × (2 ^ w ≤ x)))
@@ -77,12 +78,12 @@ IndirectionDecodes =
 -- a handle decoded from as few bytes as it takes is written as those bytes, and so is an indirection
 abbrev pub HandleEncodes : Type 0
 HandleEncodes =
-    (at n : ℕ) (s : List ℕ) (h : ValueHandle) → ((k : ℕ) → getD s k 0 < 256) → handleOf at s ≡ handle.Handle h n → n ≡ length (handleBytes h)
+    (at n : ℕ) (s : List ℕ) (h : ValueHandle) → Octets s → handleOf at s ≡ handle.Handle h n → n ≡ length (handleBytes h)
     → handleBytes h ≡ take n (drop at s)
 
 abbrev pub IndirectionEncodes : Type 0
 IndirectionEncodes =
-    (at n : ℕ) (s : List ℕ) (i : BlobIndirection) → ((k : ℕ) → getD s k 0 < 256) → indirectionOf at s ≡ indirection.Indirection i n
+    (at n : ℕ) (s : List ℕ) (i : BlobIndirection) → Octets s → indirectionOf at s ≡ indirection.Indirection i n
     → n ≡ length (indirectionBytes i) → indirectionBytes i ≡ take n (drop at s)
 
 -- a handle reads exactly where its three numbers read, one after another, padded or not; an indirection where its handle does and then its stated length

@@ -1,7 +1,7 @@
 -- The append's answer, as a number and as a row, of the writer that the row was.
 use mathlib.Core.Path.{ap, _∙_}
-use lib.ListN.{length}
 use denote.Ref.{now}
+use Rattle.frames.specs.Shape.{plainOf, blobForm}
 use Rattle.frames.specs.Write.{appendAnswer, appendBytes}
 use Rattle.frames.specs.declared.writer.Writer.{Writer}
 use Rattle.boundary.specs.Rows.{appendedRow, appendedNumber}
@@ -29,8 +29,8 @@ returns c =
     let s = c .before .before .before .before .before .before .before .before .before .before .before .args in
     let w = c .before .before .before .before .before .before .writer-of .ensures in
     let a = c .before .before .before .before .append .ensures in
-    let e = a .0 ∙ ap (λ (x : Writer). appendAnswer x (length (now (s .buf))) (length (now (s .key))) (length (now (s .value))) (length (now (s .value)))) w in
-    let f = a .1 ∙ ap (λ (x : Writer). appendBytes x (now (s .buf)) (now (s .key)) (s .seqno) (length (now (s .value))) (now (s .value))) w in
+    let e = a .0 ∙ ap (λ (x : Writer). appendAnswer blobForm x (now (s .buf)) (plainOf (now (s .key)) (s .seqno) (now (s .value)))) w in
+    let f = a .1 ∙ ap (λ (x : Writer). appendBytes blobForm x (now (s .buf)) (plainOf (now (s .key)) (s .seqno) (now (s .value)))) w in
     (c .number-of .ensures ∙ ap appendedNumber e, c .before .after .ensures ∙ ap (appendedRow (now (s .row))) e, f)
 
 pub pd-append-spec : {M : Type 1} → statement M

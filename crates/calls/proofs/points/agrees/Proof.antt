@@ -42,7 +42,7 @@ use denote.Triple.Spec.{Meets, tripleOf}
 use denote.Triple.Table.{entered, cited}
 use denote.Triple.Clauses.{ensured, lasts}
 use denote.Triple.Walked.{onExit, Stays, stay-none-slice, stay-none, walkOf, Walks, ends-at, walked, walk-meets, AllGo, goes-none-slice, goes-none}
-use Rattle.frames.specs.Point.{toldOf, shown, valueIn}
+use Rattle.frames.specs.Point.{readOf, shown, valueIn}
 use Rattle.frames.specs.declared.reader.Told.{Told}
 use Rattle.frames.proofs.reader.Told as T
 use Rattle.frames.proofs.reader.Told.Laws as T′
@@ -135,7 +135,7 @@ module _ {M : Type 1} (𝓤 : URA M) (H : Heap 𝓤) (A : Atoms 𝓤) (W : Given
 
   -- what `read` ensures
   abbrev Says : RefT (List ℕ) → Told → Type 0
-  Says r z = (shown r ≡ valueIn s (toldOf (now s) (length (now k)) hd)) × (z ≡ toldOf (now s) (length (now k)) hd)
+  Says r z = (shown r ≡ valueIn s (readOf (now s) (now k) hd)) × (z ≡ readOf (now s) (now k) hd)
 
   -- the call of `read`, of the local at l
   module _ (l ν : ℕ) (γ : GName) where

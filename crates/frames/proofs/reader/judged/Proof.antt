@@ -1,6 +1,6 @@
 -- Each answer is a case of the definition.
 use mathlib.Core.Path.{sym}
-use Rattle.frames.specs.PointLaws.{summed-found, summed-wrong}
+use Rattle.frames.proofs.PointLaws.{summed-found, summed-wrong}
 use borrow.Author.Needs.{needs}
 use Rattle.frames.proofs.reader.judged.Statement.{statement}
 use Rattle.frames.proofs.reader.judged.Tie as tie

@@ -1,11 +1,12 @@
 -- Each answer is a case of the definition.
+use Rattle.frames.specs.Layout.{headerLength}
 use mathlib.Core.Path.{_≡_, sym, _∙_}
 use native.Mathlib.Omega.{arith}
 use Prim.Native.Nat.{_+_}
 use denote.Ref.{now}
 use lib.ListN.{length}
 use Rattle.numbers.specs.PartLaws.{part-length}
-use Rattle.frames.specs.PointLaws.{told-cut, told-whole}
+use Rattle.frames.proofs.PointLaws.{told-cut, told-whole}
 use borrow.Author.Needs.{needs}
 use Rattle.frames.proofs.reader.look.Statement.{statement}
 use Rattle.frames.proofs.reader.look.Tie as tie
@@ -34,7 +35,7 @@ part-requires c κs = search needs
 within-requires : tie.Need-within-requires
 within-requires c κs =
     let a = c .before .before .before .before .before .before .args in
-    let l : length (now (c .part .result)) ≡ 38 + length (now (a .key)) + a .handle .size = search (needs, part-length) in
+    let l : length (now (c .part .result)) ≡ headerLength + length (now (a .key)) + a .handle .size = search (needs, part-length) in
     (l, omega arith)
 
 returns-2 : tie.Need-returns-2

@@ -42,7 +42,7 @@ use denote.Struct.Laws as LL
 use Rattle.frames.specs.declared.reader.Told.{Told}
 use Rattle.frames.proofs.reader.Told as T
 use Rattle.frames.proofs.reader.Told.Laws as T′
-use Rattle.frames.specs.Point.{toldOf, shown, valueIn}
+use Rattle.frames.specs.Point.{readOf, shown, valueIn}
 use Rattle.numbers.specs.declared.handle.ValueHandle.{ValueHandle}
 use Rattle.numbers.proofs.handle.ValueHandle as Hd
 use Rattle.numbers.proofs.handle.ValueHandle.Laws as Hd′
@@ -93,7 +93,7 @@ module _ {M : Type 1} (𝓤 : URA M) (H : Heap 𝓤) (A : Atoms 𝓤) (W : Given
   at = (v ∷ [], (w ∷ [], (hm ∷ [], (vptr b o ∷ [], tt))))
 
   abbrev found : Told
-  found = toldOf (now s) (length (now k)) hd
+  found = readOf (now s) (now k) hd
 
   abbrev Post : Val → SProp 𝓤
   Post = walkOf 𝓤 H A read.ended stayed (read.clauses 𝓤 H A at-mem run) .post ((κs, (q, (qᵇ, (q′, tt))), tt, x, at), tt)

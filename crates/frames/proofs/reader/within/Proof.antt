@@ -1,6 +1,6 @@
 -- Each answer is a case of the definition.
 use mathlib.Core.Path.{sym, _∙_}
-use Rattle.frames.specs.PointLaws.{within-other, within-short, within-whole}
+use Rattle.frames.proofs.PointLaws.{within-other, within-short, within-whole}
 use borrow.Author.Needs.{needs}
 use Rattle.frames.proofs.reader.within.Statement.{statement}
 use Rattle.frames.proofs.reader.within.Tie as tie

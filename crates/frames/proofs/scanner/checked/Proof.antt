@@ -1,6 +1,6 @@
 -- Each answer is a case of the definition.
 use mathlib.Core.Path.{sym}
-use Rattle.frames.specs.ScanLaws.{checked-end, checked-cut, checked-header, checked-entry, checked-wrong}
+use Rattle.frames.proofs.ScanLaws.{checked-end, checked-cut, checked-header, checked-entry, checked-wrong}
 use borrow.Author.Needs.{needs}
 use Rattle.frames.proofs.scanner.checked.Statement.{statement}
 use Rattle.frames.proofs.scanner.checked.Tie as tie

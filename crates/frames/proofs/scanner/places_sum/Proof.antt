@@ -1,5 +1,5 @@
 -- Where the second place follows the first, one part holds both; else both are joined.
-use Rattle.frames.specs.ScanLaws.{together, apart}
+use Rattle.frames.proofs.ScanLaws.{together, apart}
 use borrow.Author.Needs.{needs}
 use Rattle.frames.proofs.scanner.places_sum.Statement.{statement}
 use Rattle.frames.proofs.scanner.places_sum.Tie as tie

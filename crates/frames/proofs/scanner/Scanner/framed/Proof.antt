@@ -1,6 +1,6 @@
 -- Each answer is a case of the definition.
 use mathlib.Core.Path.{sym, _∙_}
-use Rattle.frames.specs.ScanLaws.{frame-header, frame-key, frame-value, frame-whole, tail-has}
+use Rattle.frames.proofs.ScanLaws.{frame-header, frame-key, frame-value, frame-whole, tail-has}
 use borrow.Author.Needs.{needs}
 use Rattle.frames.proofs.scanner.Scanner.framed.Statement.{statement}
 use Rattle.frames.proofs.scanner.Scanner.framed.Tie as tie

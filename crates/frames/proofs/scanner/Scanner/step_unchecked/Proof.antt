@@ -1,6 +1,6 @@
 -- Each answer is a case of the definition.
 use mathlib.Core.Path.{sym, _∙_}
-use Rattle.frames.specs.ScanLaws.{at-ended, at-cut, at-meta, at-blob, at-other, tail-room}
+use Rattle.frames.proofs.ScanLaws.{at-ended, at-cut, at-meta, at-blob, at-other, tail-room}
 use borrow.Author.Needs.{needs}
 use Rattle.frames.proofs.scanner.Scanner.step_unchecked.Statement.{statement}
 use Rattle.frames.proofs.scanner.Scanner.step_unchecked.Tie as tie

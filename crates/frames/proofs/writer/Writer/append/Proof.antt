@@ -1,6 +1,7 @@
 -- A raw append of the value's length, where a u32 holds it; where none does, it is refused by 2 whatever it states.
 use mathlib.Core.Path.{_∙_}
-use Rattle.frames.specs.WriteLaws.{plain-answer, plain-bytes}
+use denote.Ref.{now}
+use Rattle.frames.specs.WriteLaws.{plain-append}
 use borrow.Author.Needs.{needs}
 use Rattle.frames.proofs.writer.Writer.append.Statement.{statement}
 use Rattle.frames.proofs.writer.Writer.append.Tie as tie
@@ -19,8 +20,10 @@ same-length c = search needs
 
 returns : tie.Need-returns
 returns c =
+    let a = c .before .before .before .before .before .before .before .before .args in
     let r = c .before .before .append-raw .ensures in
-    (r .0 ∙ plain-answer _ _ _ _ _ (search needs), r .1 ∙ plain-bytes _ _ _ _ _ _ (search needs))
+    let p = plain-append (a .self) (now (a .buf)) (now (a .key)) (a .seqno) (c .before .before .before .before .lesser .result) (now (a .value)) (search needs) in
+    (r .0 ∙ p .0, r .1 ∙ p .1)
 
 pub append-spec : {M : Type 1} → statement M
 append-spec =

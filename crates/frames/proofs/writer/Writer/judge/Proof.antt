@@ -20,14 +20,11 @@ returns-4 c = sym (search (needs, judge-value))
 room-requires : tie.Need-room-requires
 room-requires c κs = search needs
 
+size-requires : tie.Need-size-requires
+size-requires c κs = search needs
+
 add-if5 : tie.Need-add-if5
 add-if5 c = search needs
-
-add-if5-2 : tie.Need-add-if5-2
-add-if5-2 c = search needs
-
-add-if5-3 : tie.Need-add-if5-3
-add-if5-3 c = search needs
 
 returns-5 : tie.Need-returns-5
 returns-5 c = sym (search (needs, judge-room))
@@ -50,9 +47,8 @@ judge-spec =
     returns-3
     returns-4
     room-requires
+    size-requires
     add-if5
-    add-if5-2
-    add-if5-3
     returns-5
     over-requires
     returns-6

@@ -6,10 +6,10 @@ use Rattle.frames.proofs.writer.Writer.next_file.Statement.{statement}
 use Rattle.frames.proofs.writer.Writer.next_file.Tie as tie
 
 returns : tie.Need-returns
-returns c = sym (next-early _ (search needs))
+returns c = sym (search (needs, next-early))
 
 returns-2 : tie.Need-returns-2
-returns-2 c = sym (next-last _ (search needs) (search needs))
+returns-2 c = sym (search (needs, next-last))
 
 add-new : tie.Need-add-new
 add-new c = search needs

@@ -12,7 +12,7 @@ use Rattle.hash.specs.XXH3.{xxh3-128}
 use Rattle.numbers.specs.Pick.{pick}
 use Rattle.numbers.specs.Le.{le}
 use Rattle.numbers.specs.PartLaws.{take-min}
-use Rattle.frames.specs.Layout.{blob, meta, headerOf, starts, sameSum}
+use Rattle.frames.specs.Layout.{headerLength, blob, meta, headerOf, starts, sameSum}
 use Rattle.frames.specs.LayoutLaws.{le-blob, le-meta}
 use Rattle.frames.specs.Scan.{going, cutAt, reading, entryOf, frameOf, frameAt, partAt, sumAt, checkedOf}
 use Rattle.frames.specs.declared.place.Place.{Place}
@@ -40,7 +40,7 @@ module _ (s : List ℕ) (w : Scanner) (p : List ℕ) (q : p ≡ drop (w .at) s) 
   size : length p ≡ length s - w .at
   size = rw q (length-drop (w .at) s)
 
-  pub frame-header : length p < 38 → w .at + 4 ≤ length s → frameOf s w ≡ cutAt (w .at + 4) 34 (length p - 4) w
+  pub frame-header : length p < headerLength → w .at + 4 ≤ length s → frameOf s w ≡ cutAt (w .at + 4) 34 (length p - 4) w
   unfolding frameOf
   frame-header h g =
       let z = size in
@@ -48,39 +48,39 @@ module _ (s : List ℕ) (w : Scanner) (p : List ℕ) (q : p ≡ drop (w .at) s) 
       let l : length s - (w .at + 4) < 34 = omega arith in
       reading-cut s (w .at + 4) 34 w _ l ∙ rw e
 
-  module _ (h : Header) (e : h ≡ headerOf p) (whole : 38 ≤ length p) where
+  module _ (h : Header) (e : h ≡ headerOf p) (whole : headerLength ≤ length p) where
     head : headerOf (drop (w .at) s) ≡ h
     head = rw (← q) (sym e)
 
-    pub frame-key : length p - 38 < h .key → frameOf s w ≡ cutAt (w .at + 38) (h .key) (length p - 38) w
+    pub frame-key : length p - headerLength < h .key → frameOf s w ≡ cutAt (w .at + headerLength) (h .key) (length p - headerLength) w
     unfolding frameOf
     frame-key less =
         let z = size in
         let a : 34 ≤ length s - (w .at + 4) = omega arith in
-        let f : length s - (w .at + 38) ≡ length p - 38 = omega arith in
-        let l : length s - (w .at + 38) < h .key = omega arith in
-        rw head (reading-on s (w .at + 4) 34 w _ a ∙ (reading-cut s (w .at + 38) (h .key) w _ l ∙ rw f))
+        let f : length s - (w .at + headerLength) ≡ length p - headerLength = omega arith in
+        let l : length s - (w .at + headerLength) < h .key = omega arith in
+        rw head (reading-on s (w .at + 4) 34 w _ a ∙ (reading-cut s (w .at + headerLength) (h .key) w _ l ∙ rw f))
 
-    module _ (key : h .key ≤ length p - 38) where
-      pub frame-value : length p - 38 - h .key < h .size → frameOf s w ≡ cutAt (w .at + 38 + h .key) (h .size) (length p - 38 - h .key) w
+    module _ (key : h .key ≤ length p - headerLength) where
+      pub frame-value : length p - headerLength - h .key < h .size → frameOf s w ≡ cutAt (w .at + headerLength + h .key) (h .size) (length p - headerLength - h .key) w
       unfolding frameOf
       frame-value less =
           let z = size in
           let a : 34 ≤ length s - (w .at + 4) = omega arith in
-          let b : h .key ≤ length s - (w .at + 38) = omega arith in
-          let f : length s - (w .at + 38 + h .key) ≡ length p - 38 - h .key = omega arith in
-          let l : length s - (w .at + 38 + h .key) < h .size = omega arith in
-          rw head (reading-on s (w .at + 4) 34 w _ a ∙ (reading-on s (w .at + 38) (h .key) w _ b ∙ (reading-cut s (w .at + 38 + h .key) (h .size) w _ l ∙ rw f)))
+          let b : h .key ≤ length s - (w .at + headerLength) = omega arith in
+          let f : length s - (w .at + headerLength + h .key) ≡ length p - headerLength - h .key = omega arith in
+          let l : length s - (w .at + headerLength + h .key) < h .size = omega arith in
+          rw head (reading-on s (w .at + 4) 34 w _ a ∙ (reading-on s (w .at + headerLength) (h .key) w _ b ∙ (reading-cut s (w .at + headerLength + h .key) (h .size) w _ l ∙ rw f)))
 
-      pub frame-whole : h .size ≤ length p - 38 - h .key
-          → frameOf s w ≡ framed.Entry (entryOf (w .at) h) (h .sum) (going (w .at + 38 + h .key + h .size))
+      pub frame-whole : h .size ≤ length p - headerLength - h .key
+          → frameOf s w ≡ framed.Entry (entryOf (w .at) h) (h .sum) (going (w .at + headerLength + h .key + h .size))
       unfolding frameOf
       frame-whole fits =
           let z = size in
           let a : 34 ≤ length s - (w .at + 4) = omega arith in
-          let b : h .key ≤ length s - (w .at + 38) = omega arith in
-          let d : h .size ≤ length s - (w .at + 38 + h .key) = omega arith in
-          rw head (reading-on s (w .at + 4) 34 w _ a ∙ (reading-on s (w .at + 38) (h .key) w _ b ∙ reading-on s (w .at + 38 + h .key) (h .size) w _ d))
+          let b : h .key ≤ length s - (w .at + headerLength) = omega arith in
+          let d : h .size ≤ length s - (w .at + headerLength + h .key) = omega arith in
+          rw head (reading-on s (w .at + 4) 34 w _ a ∙ (reading-on s (w .at + headerLength) (h .key) w _ b ∙ reading-on s (w .at + headerLength + h .key) (h .size) w _ d))
 
 -- a step up to the sum
 module _ (s : List ℕ) (w : Scanner) where

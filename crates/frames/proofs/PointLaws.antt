@@ -12,7 +12,7 @@ use Rattle.hash.specs.XXH3.{xxh3-128}
 use Rattle.numbers.specs.Pick.{pick}
 use Rattle.numbers.specs.Le.{le}
 use Rattle.numbers.specs.declared.handle.ValueHandle.{ValueHandle}
-use Rattle.frames.specs.Layout.{blob, headerOf, starts, sameSum}
+use Rattle.frames.specs.Layout.{headerLength, blob, headerOf, starts, sameSum}
 use Rattle.frames.specs.LayoutLaws.{le-blob}
 use Rattle.frames.specs.Point.{noPlace, noCut, told, cutTold, summed, takenSum, withinOf, toldOf}
 use Rattle.frames.specs.declared.place.Place.{Place}
@@ -28,9 +28,9 @@ module _ (value : Place) (stored computed : Hash128) (o : Bool) (e : o ≡ sameS
   summed-wrong h = rw (← e, h)
 
 -- key and value in one part, where the header's key is as long as the given one
-pub taken-once : (t u : List ℕ) (hk k : ℕ) → hk ≡ k → u ≡ drop 38 t → xxh3-128 u ≡ takenSum t hk k
+pub taken-once : (t u : List ℕ) (hk k : ℕ) → hk ≡ k → u ≡ drop headerLength t → xxh3-128 u ≡ takenSum t hk k
 unfolding takenSum
-taken-once t u hk k e p = ap xxh3-128 (p ∙ sym (rw (e, ← drop-drop k 38 t) (take-append-drop k (drop 38 t))))
+taken-once t u hk k e p = ap xxh3-128 (p ∙ sym (rw (e, ← drop-drop k headerLength t) (take-append-drop k (drop headerLength t))))
 
 -- m says whether t starts with BLOB
 module _ (t : List ℕ) (at k size : ℕ) (m : Bool) (e : m ≡ starts (le 4 0x424f_4c42) t) where
@@ -41,27 +41,27 @@ module _ (t : List ℕ) (at k size : ℕ) (m : Bool) (e : m ≡ starts (le 4 0x4
   unfolding withinOf pick
   within-other h = simp (is-blob, h)
 
-  module _ (b : m ≡ true) (h : Header) (f : h ≡ headerOf t) (l : length t ≡ 38 + k + size) where
-    left : length t - 38 ≡ k + size
+  module _ (b : m ≡ true) (h : Header) (f : h ≡ headerOf t) (l : length t ≡ headerLength + k + size) where
+    left : length t - headerLength ≡ k + size
     left = omega arith
 
-    pub within-short : k + size < h .key → withinOf t at k size ≡ cutTold (at + 38) (h .key) (k + size)
+    pub within-short : k + size < h .key → withinOf t at k size ≡ cutTold (at + headerLength) (h .key) (k + size)
     unfolding withinOf pick
     within-short less =
         rw (← f) (simp (is-blob, b, left, lt-ltb _ _ less))
 
     pub within-whole : h .key ≤ k + size → (x : Hash128) → x ≡ takenSum t (h .key) k
-        → withinOf t at k size ≡ summed (record { at = at + 38 + k; len = size }) (h .sum) x
+        → withinOf t at k size ≡ summed (record { at = at + headerLength + k; len = size }) (h .sum) x
     unfolding withinOf pick
     within-whole fits x q =
         rw (← f, q) (simp (is-blob, b, left, le-ltb _ _ fits))
 
 module _ (s : List ℕ) (k : ℕ) (h : ValueHandle) (r : ℕ) (e : r ≡ length s - h .offset) where
-  pub told-cut : r < 38 + k + h .size → toldOf s k h ≡ cutTold (h .offset) (38 + k + h .size) r
+  pub told-cut : r < headerLength + k + h .size → toldOf s k h ≡ cutTold (h .offset) (headerLength + k + h .size) r
   unfolding toldOf pick
   told-cut l = simp (← e, lt-ltb _ _ l)
 
-  pub told-whole : 38 + k + h .size ≤ r → (t : List ℕ) → t ≡ take (38 + k + h .size) (drop (h .offset) s)
+  pub told-whole : headerLength + k + h .size ≤ r → (t : List ℕ) → t ≡ take (headerLength + k + h .size) (drop (h .offset) s)
       → toldOf s k h ≡ withinOf t (h .offset) k (h .size)
   unfolding toldOf pick
   told-whole l t q = rw q (simp (← e, le-ltb _ _ l))
