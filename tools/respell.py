@@ -136,7 +136,7 @@ def turned(s, may, local={}):
 
 def behind(s, m):
     """The dotted path right before the match."""
-    return re.search(r"[^\s(){};,\"«»]*$", s[: m.start()])[0]
+    return re.search(r"[^\s(){};,\"«»]*\Z", s[: m.start()])[0]
 
 
 def antt_turned(path, s):

@@ -16,10 +16,10 @@ use Rattle.frames.specs.declared.writer.Writer.{Writer}
 pub header_law : (p : List ℕ) (low high seqno key stated size : ℕ) → low ≡ num 8 (drop 4 p) → high ≡ num 8 (drop 12 p) → seqno ≡ num 8 (drop 20 p) → key ≡ num 2 (drop 28 p) → stated ≡ num 4 (drop 30 p) → size ≡ num 4 (drop 34 p)
     → record { sum = record { low = low; high = high }; seqno = seqno; key = key; stated = stated; size = size } ≡ header_of p
 unfolding header_of
-header-law p low high seqno key stated size a b c d e f = rw (a, b, c, d, e, f)
+header_law p low high seqno key stated size a b c d e f = rw (a, b, c, d, e, f)
 
 -- a writer after an append that is taken
 pub grown_law : (w : Writer) (f : Shape) (size : ℕ) (first : Place) → size ≡ size_of f → first ≡ first_of w.items (key_place w f) w.first
     → record { id = w.id; offset = w.offset + size; items = w.items + 1; disk = w.disk + f.value; stated = w.stated + f.stated; target = w.target; finished = leb w.target (w.offset + size); first = first; last = key_place w f } ≡ grown w f
 unfolding grown
-grown-law w f size first s e = rw (s, e)
+grown_law w f size first s e = rw (s, e)

@@ -62,7 +62,7 @@ pub told : (κs : Lfts 1) → Tells (Held κs) (Is (Held κs)) (spelt κs)
 told κs = LL.tells (Sort (named 0) κs) (laws (named 0) κs)
 
 abbrev pub place_spelt : Scanner → List Val
-place-spelt = LL.vals S.the_type S'.the_laws
+place_spelt = LL.vals S.the_type S'.the_laws
 
 pub place-told : Tells S.the_row (Is S.the_row) place_spelt
 place-told = LL.tells S.the_type S'.the_laws
@@ -87,7 +87,7 @@ is_held κs s w iss isw = LL.owes (Sort (named 0) κs) (laws (named 0) κs) (hol
 
 -- what a place owns is had for nothing
 pub place_owned : {M : Type 1} {𝓤 : Ura M} {𝓛 : Logic 𝓤} {K : Type 0} {Γ : List (Item 𝓤)} {G : Goal 𝓤 𝓛.H} → K → (w : Scanner) → Is S.the_row w (place w ∷ []) → Step K 𝓛 (‵ ((S.the_row).own_val w (place w ∷ [])) ∷ Γ) G Γ G
-place-owned {𝓤 = 𝓤} {𝓛 = 𝓛} t w is = owned t S.the_row (Is S.the_row) (LL.makes S.the_type S'.the_plain 𝓛) w (place w ∷ []) is
+place_owned {𝓤 = 𝓤} {𝓛 = 𝓛} t w is = owned t S.the_row (Is S.the_row) (LL.makes S.the_type S'.the_plain 𝓛) w (place w ∷ []) is
 
 module _ {M : Type 1} {𝓤 : Ura M} (𝓛 : Logic 𝓤) (κs : Lfts 1) where
   -- each may lie in a local

@@ -30,7 +30,7 @@ module _ (value : Place) (stored computed : Hash128) (o : Bool) (e : o ≡ same_
 -- key and value in one part, where the header's key is as long as the given one
 pub taken_once : (t u : List ℕ) (hk k : ℕ) → hk ≡ k → u ≡ drop header_length t → xxh3_128 u ≡ taken_sum t hk k
 unfolding taken_sum
-taken-once t u hk k e p = ap xxh3_128 (p ∙ sym (rw (e, ← drop-drop k header_length t) (take-append-drop k (drop header_length t))))
+taken_once t u hk k e p = ap xxh3_128 (p ∙ sym (rw (e, ← drop-drop k header_length t) (take-append-drop k (drop header_length t))))
 
 -- m says whether t starts with BLOB
 module _ (t : List ℕ) (at k size : ℕ) (m : Bool) (e : m ≡ starts (le 4 0x424f_4c42) t) where

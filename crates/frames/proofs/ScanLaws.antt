@@ -163,4 +163,4 @@ pub tail-room : (s p : List ℕ) (at n r : ℕ) → r ≡ length s - at → n �
 tail-room s p at n r e h f = let l : length p ≡ length s - at = rw f (length-drop at s) in omega arith
 
 pub tail_has : (s p : List ℕ) (at n : ℕ) → at + n ≤ length s → p ≡ drop at s → n ≤ length p
-tail-has s p at n h f = let l : length p ≡ length s - at = rw f (length-drop at s) in omega arith
+tail_has s p at n h f = let l : length p ≡ length s - at = rw f (length-drop at s) in omega arith

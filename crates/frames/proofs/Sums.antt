@@ -30,9 +30,9 @@ module _ (t : List ℕ) (hk k : ℕ) (r : Hash128) where
 -- of an entry
 pub entry_law : (s : List ℕ) (e : ScanEntry) (r : Hash128) → r ≡ xxh3_128 (part_at s e.key ++ part_at s e.value) → r ≡ sum_at s e
 unfolding sum_at
-entry-law s e r h = h
+entry_law s e r h = h
 
 -- a step up to the sum, and then its test
 pub step_law : (s : List ℕ) (w : Scanner) (f : Framed) (r : Scanned) → f ≡ frame_at s w → r ≡ checked_of s f → r ≡ step_of s w
 unfolding step_of
-step-law s w f r e h = rw (h, e)
+step_law s w f r e h = rw (h, e)

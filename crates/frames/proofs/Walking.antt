@@ -41,7 +41,7 @@ module _ (s : List ℕ) where
 
 pub walk_on_lem : WalkOn
 unfolding walk_in
-walk-on s w =
+walk_on_lem s w =
     enough s ((length s - w.at) / 4 + 1) (suc ((length s - w.at) / 4)) w (omega arith) (omega arith)
     ∙ agree s (step_of s w) (walk_in ((length s - w.at) / 4) s) (walk_from s)
     (λ e next q. let p = moves s w next e q in let a = p.0 in let b = p.1 in enough s ((length s - w.at) / 4) ((length s - next.at) / 4 + 1) next (omega arith) (omega arith))
@@ -49,7 +49,7 @@ walk-on s w =
 -- a step that gives an entry, and one that ends the scan
 pub walk_entry : (s : List ℕ) (w next : Scanner) (e : ScanEntry) → step_of s w ≡ scanned.Entry e next → walk_from s w ≡ ahead (e ∷ []) (walk_from s next)
 unfolding go_on
-walk-entry s w next e q = walk_on_lem s w ∙ ap (λ (x : Scanned). go_on x (walk_from s)) q
+walk_entry s w next e q = walk_on_lem s w ∙ ap (λ (x : Scanned). go_on x (walk_from s)) q
 
 pub walk_end : (s : List ℕ) (w next : Scanner) (at : ℕ) → step_of s w ≡ scanned.End at next → walk_from s w ≡ record { entries = []; last = scanned.End at next }
 unfolding go_on

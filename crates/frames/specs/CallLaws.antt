@@ -147,7 +147,7 @@ module _ (form : Form) (sized : Sized form) where
 -- One call on a finished writer.
 
 still_as : (w : Writer) (s : List ℕ) (r : Run) → r ≡ record { writer = w; buffer = s; frames = []; reports = [] } → Still w s r
-still-as w s r e = record { writer = rw e; buffer = rw e; frames = rw e; reports = rw e }
+still_as w s r e = record { writer = rw e; buffer = rw e; frames = rw e; reports = rw e }
 
 module _ (form : Form) (w : Writer) (s : List ℕ) (off : w.finished ≡ true) where
   still_append : (i : Item) → Still w s (appending form i w s)

@@ -111,7 +111,7 @@ pick-go false r x h = (refl, h)
 
 pick_off : (b x : Bool) → pick b true x ≡ false → (b ≡ false) × (x ≡ false)
 unfolding pick
-pick-off true x h = absurd (let z : ◌≡◌ {A = ℕ} 0 1 = cc in omega arith)
+pick_off true x h = absurd (let z : ◌≡◌ {A = ℕ} 0 1 = cc in omega arith)
 pick_off false x h = (refl, h)
 
 pub some_number : (k : ℕ) → eqb k 0 ≡ false → 0 < k

@@ -67,8 +67,8 @@ add-found f e (x ∷ l) h q = go (ltb x.id e.id) h q (add-found f e l)
 pub add_fresh : (f : Entry → Entry → Entry) (e : Entry) (l : List Entry) → (place_of e.id l < length l → (get_or l (place_of e.id l) no_entry).id ≡ e.id → ⊥)
     → joined f e l ≡ put l (place_of e.id l) e
 unfolding place_in joined pick
-add-fresh f e [] h = refl
-add-fresh f e (x ∷ l) h = go (ltb x.id e.id) h (add_fresh f e l)
+add_fresh f e [] h = refl
+add_fresh f e (x ∷ l) h = go (ltb x.id e.id) h (add_fresh f e l)
   where
     go : (b : Bool) → (one_more b (place_of e.id l) < suc (length l) → (get_or (x ∷ l) (one_more b (place_of e.id l)) no_entry).id ≡ e.id → ⊥)
         → ((place_of e.id l < length l → (get_or l (place_of e.id l) no_entry).id ≡ e.id → ⊥) → joined f e l ≡ put l (place_of e.id l) e)
@@ -79,8 +79,8 @@ add-fresh f e (x ∷ l) h = go (ltb x.id e.id) h (add_fresh f e l)
 -- ---- the ids stay in order
 pub add_ascending : (f : Entry → Entry → Entry) → ((x e : Entry) → x.id ≡ e.id → (f x e).id ≡ x.id) → (lo : ℕ) (e : Entry) (l : List Entry) → lo ≤ e.id → ascending_from lo l ≡ true → ascending_from lo (joined f e l) ≡ true
 unfolding ascending_from joined pick
-add-ascending f k lo e [] h t = both (leb lo e.id) true (le-leb lo e.id h) refl
-add-ascending f k lo e (x ∷ l) h t =
+add_ascending f k lo e [] h t = both (leb lo e.id) true (le-leb lo e.id h) refl
+add_ascending f k lo e (x ∷ l) h t =
     let a = and_l (leb lo x.id) (ascending_from (suc x.id) l) t in
     let b = and_r (leb lo x.id) (ascending_from (suc x.id) l) t in
     tri x.id e.id
@@ -92,7 +92,7 @@ add-ascending f k lo e (x ∷ l) h t =
 -- ---- it is as long, or one longer
 pub add_longer : (f : Entry → Entry → Entry) (e : Entry) (l : List Entry) → (length l ≤ length (joined f e l)) × (length (joined f e l) ≤ suc (length l))
 unfolding joined pick
-add-longer f e [] = (omega arith, omega arith)
+add_longer f e [] = (omega arith, omega arith)
 add_longer f e (x ∷ l) = go (ltb x.id e.id) (eqb x.id e.id) (add_longer f e l)
   where
     go : (b b' : Bool) → (length l ≤ length (joined f e l)) × (length (joined f e l) ≤ suc (length l))

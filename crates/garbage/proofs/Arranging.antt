@@ -52,7 +52,7 @@ held m l k t = record {
 
 pub none_ascending : ascending_from 0 [] ≡ true
 unfolding ascending_from
-none-ascending = refl
+none_ascending = refl
 
 pub empty_holds : Holds empty_map []
 unfolding rows ascending_from
@@ -161,7 +161,7 @@ sum_is (node a b) =
 
 sum_swap : (a b : Arrangement) → added_all (sum b) (sum a) ≡ added_all (sum a) (sum b)
 unfolding pointers_of
-sum-swap a b =
+sum_swap a b =
     sum_is (node a b) ∙ ap (λ (t : List Entry). added_all t []) (map-append one (pointers_of a) (pointers_of b)) ∙ all_append (ones (pointers_of a)) (ones (pointers_of b)) []
     ∙ all_swap (ones (pointers_of b)) (ones (pointers_of a)) []
     ∙ sym (sum_is (node b a) ∙ ap (λ (t : List Entry). added_all t []) (map-append one (pointers_of b) (pointers_of a)) ∙ all_append (ones (pointers_of b)) (ones (pointers_of a)) [])
@@ -169,8 +169,8 @@ sum-swap a b =
 -- ---- made exactly where the sum fits
 pub out_yes : (a : Arrangement) → all_fit (sum a) ≡ true → length (sum a) ≤ 64 → outcome a ≡ made (sum a)
 unfolding outcome
-out-yes (leaf ps) f k = turns_judged (ones ps) [] f (omega arith) ∙ judged-made (added_all (ones ps) []) f k
-out-yes (node a b) f k =
+out_yes (leaf ps) f k = turns_judged (ones ps) [] f (omega arith) ∙ judged-made (added_all (ones ps) []) f k
+out_yes (node a b) f k =
     let s : added_all (sum b) (sum a) ≡ added_all (sum a) (sum b) = sum_swap a b in
     let fb : all_fit (sum b) ≡ true = fit_all (sum a) (sum b) (ap all_fit (sym s) ∙ f) in
     let x : outcome a ≡ made (sum a) = out_yes a (fit_all (sum b) (sum a) f) (omega (arith, long-all (sum b) (sum a))) in

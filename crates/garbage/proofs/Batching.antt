@@ -112,7 +112,7 @@ module _ (m : FragmentationMap) where
 
 pub batch_drops_lem : BatchDrops
 unfolding pick
-batch-drops n a b x y ps w h =
+batch_drops_lem n a b x y ps w h =
     let m : FragmentationMap = record { count = n; ids = a; frames = b; stated = x; disk = y } in
     let k : n ≤ 64 = well-few m h in
     rw h

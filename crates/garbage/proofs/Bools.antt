@@ -18,8 +18,8 @@ pub both : (a b : Bool) → a ≡ true → b ≡ true → (a && b) ≡ true
 both a b p q = rw (p, q)
 
 pub and_true : (b : Bool) → (b && true) ≡ b
-and-true true = refl
-and-true false = refl
+and_true true = refl
+and_true false = refl
 
 pub tri : {A : Type 0} (a b : ℕ) → (a < b → A) → (a ≡ b → A) → (b < a → A) → A
 tri {A} a b f g h = go (ltb a b) refl (ltb b a) refl
@@ -39,5 +39,5 @@ same_or {A} a b f g = go (eqb a b) refl
 
 -- a test that is true or not
 pub by_test : {A : Type 0} (b : Bool) → (b ≡ true → A) → (b ≡ false → A) → A
-by-test true f g = f refl
-by-test false f g = g refl
+by_test true f g = f refl
+by_test false f g = g refl

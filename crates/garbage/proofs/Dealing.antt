@@ -33,15 +33,15 @@ unfolding pick
 held_of m l id h = ap₂ (λ (b : Bool) (x : List Entry). pick b (found id x) Refused) h.well h.entries
 
 pub counts_drops_lem : CountsDrops
-counts-drops ps m id t e =
+counts_drops_lem ps m id t e =
     let k : Made (in_turn (ones ps) []) m = made_of (in_turn (ones ps) []) (drop_each ps empty_map) m (each ps empty_map [] empty_holds t) e in
     let r = turns_made (ones ps) [] k.list none_ascending none-fit (omega arith) k.is in
     held_of m k.list id k.holds ∙ ap (found id) r.0 ∙ tallied id ps
 
 -- ---- demand 3
-same-form : (m n : FragmentationMap) (l : List Entry) → Holds m l → Holds n l → stored_form m ≡ stored_form n
+same_form : (m n : FragmentationMap) (l : List Entry) → Holds m l → Holds n l → stored_form m ≡ stored_form n
 unfolding stored_form
-same-form m n l h k =
+same_form m n l h k =
     let c : m.count ≡ n.count =
     sym (rows-length (columns_of m) 0 m.count) ∙ ap length (h.entries ∙ sym k.entries) ∙ rows-length (columns_of n) 0 n.count in
     ap₂ (λ (x : ℕ) (y : List Entry). le 4 x ++ entries_bytes y) c (h.entries ∙ sym k.entries)
@@ -62,7 +62,7 @@ same_bytes_lem a b m ta tb p e =
     (x.holds.well, λ buf. ap (λ (u : Ran). storing u buf) y.is ∙ same-stored y.map m (sum b) y.holds z buf)
 
 pub dead_exactly_lem : DeadExactly
-dead-exactly fs a m f w d i t p e =
+dead_exactly_lem fs a m f w d i t p e =
     let x : Made (outcome a) m = made_of (outcome a) (arranged a) m (agrees a t) e in
     let r = out-made a x.list x.is in
     let l : lookup_of m f.id ≡ tally f.id (gone_of f.frames) =

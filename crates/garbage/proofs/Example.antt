@@ -95,4 +95,4 @@ module _ (id : ℕ) (small : id < 2 ^ 64) where
       }
 
 pub three_and_none_lem : ThreeAndNone
-three-and-none id small = dead-after id small
+three_and_none_lem id small = dead-after id small

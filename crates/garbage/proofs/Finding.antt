@@ -30,13 +30,13 @@ module _ (id : ℕ) (x : Entry) (l : List Entry) where
 
 pub found_in_none : (id : ℕ) → found id [] ≡ NoEntry
 unfolding found
-found-in-none id = refl
+found_in_none id = refl
 
 -- no id below the first of a list in order
 pub found_above : (id lo : ℕ) (l : List Entry) → id < lo → ascending_from lo l ≡ true → found id l ≡ NoEntry
 unfolding ascending_from
-found-above id lo [] h t = found_in_none id
-found-above id lo (x ∷ l) h t =
+found_above id lo [] h t = found_in_none id
+found_above id lo (x ∷ l) h t =
     let a : lo ≤ x.id = leb-true lo x.id (and_l (leb lo x.id) (ascending_from (suc x.id) l) t) in
     found-past id x l (λ z. omega arith)
     ∙ found_above id (suc x.id) l (omega arith) (and_r (leb lo x.id) (ascending_from (suc x.id) l) t)
@@ -55,8 +55,8 @@ found_at id (x ∷ l) h q = go (ltb x.id id) refl h q (found_at id l)
 
 found_not : (id lo : ℕ) (l : List Entry) → ascending_from lo l ≡ true → (place_of id l < length l → (get_or l (place_of id l) no_entry).id ≡ id → ⊥) → found id l ≡ NoEntry
 unfolding place_in ascending_from
-found-not id lo [] t h = found_in_none id
-found-not id lo (x ∷ l) t h = go (ltb x.id id) refl h (found_not id (suc x.id) l (and_r (leb lo x.id) (ascending_from (suc x.id) l) t))
+found_not id lo [] t h = found_in_none id
+found_not id lo (x ∷ l) t h = go (ltb x.id id) refl h (found_not id (suc x.id) l (and_r (leb lo x.id) (ascending_from (suc x.id) l) t))
   where
     go : (b : Bool) → ltb x.id id ≡ b → (one_more b (place_of id l) < suc (length l) → (get_or (x ∷ l) (one_more b (place_of id l)) no_entry).id ≡ id → ⊥)
         → ((place_of id l < length l → (get_or l (place_of id l) no_entry).id ≡ id → ⊥) → found id l ≡ NoEntry)

@@ -51,9 +51,9 @@ fit-set (y ∷ l) (suc i) x h f = ap₂ (λ (a b : Bool). a && b) (fit-head y l 
 
 -- one entry that fits, put in
 pub fit_put : (l : List Entry) (i : ℕ) (x : Entry) → fits x ≡ true → all_fit l ≡ true → all_fit (put l i x) ≡ true
-fit-put l zero x h f = fit_cons x l h f
-fit-put [] (suc i) x h f = fit_cons x [] h f
-fit-put (y ∷ l) (suc i) x h f = fit_cons y (put l i x) (fit-head y l f) (fit_put l i x h (fit-tail y l f))
+fit_put l zero x h f = fit_cons x l h f
+fit_put [] (suc i) x h f = fit_cons x [] h f
+fit_put (y ∷ l) (suc i) x h f = fit_cons y (put l i x) (fit-head y l f) (fit_put l i x h (fit-tail y l f))
 
 -- ---- the three widths, tested by what is left
 module _ (x e : Entry) (ef : e.frames < 2 ^ 32) (es : e.stated < 2 ^ 64) (ed : e.disk < 2 ^ 64) where

@@ -13,7 +13,7 @@ use Rattle.garbage.proofs.Bools.{and_l, and_r}
 
 above_all : (lo : ℕ) (xs : List ℕ) → rising_from lo xs ≡ true → (k : ℕ) → k < length xs → lo ≤ get_or xs k 0
 unfolding rising_from
-above-all lo [] t k q = absurd (omega arith)
+above_all lo [] t k q = absurd (omega arith)
 above_all lo (x ∷ xs) t zero q = leb-true lo x (and_l (leb lo x) (rising_from (suc x) xs) t)
 above_all lo (x ∷ xs) t (suc k) q =
     let a = leb-true lo x (and_l (leb lo x) (rising_from (suc x) xs) t) in

@@ -90,7 +90,7 @@ module _ (c : Columns) (w : Whole c) (l : List Entry) where
 -- the entries from i on, the first of them apart
 pub rows_open : (c : Columns) (i n : ℕ) → i < n → rows c i (n - i) ≡ entry_at c i ∷ rows c (i + 1) (n - (i + 1))
 unfolding rows
-rows-open c i n h =
+rows_open c i n h =
     let k : n - i ≡ suc (n - (i + 1)) = omega arith in
     ap (rows c i) k ∙ ap (λ (j : ℕ). entry_at c i ∷ rows c j (n - (i + 1))) (sym (add-one i))
 
@@ -111,4 +111,4 @@ rows_snoc c n = ap (rows c 0) (add-one n) ∙ rows_end c 0 n ∙ ap (λ (k : ℕ
 
 pub rows_zero : (c : Columns) → rows c 0 0 ≡ []
 unfolding rows
-rows-zero c = refl
+rows_zero c = refl

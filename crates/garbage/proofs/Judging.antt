@@ -49,7 +49,7 @@ apart_in id f (g ∷ fs) a (there i) = apart_in id f fs a.1 i
 
 pub own_drops : (f : File) (fs : List File) → AllFinished fs → Distinct fs → In f fs → of_file f.id (all_gone fs) ≡ gone_of f.frames
 unfolding all_gone
-own-drops f (g ∷ fs) w d here =
+own_drops f (g ∷ fs) w d here =
     of_append f.id (gone_of f.frames) (all_gone fs)
     ∙ ap₂ (λ (x y : List BlobIndirection). x ++ y) (own-all f.id f.frames w.0.own) (apart_none f.id fs w.1 d.0)
     ∙ append-nil (gone_of f.frames)
@@ -58,8 +58,8 @@ own_drops f (g ∷ fs) w d (there i) =
     ∙ ap₂ (λ (x y : List BlobIndirection). x ++ y) (other_none f.id g.id g.frames (λ e. apart_in g.id f fs d.0 i (sym e)) w.0.own) (own_drops f fs w.1 d.1 i)
 
 pub finished_in : (f : File) (fs : List File) → AllFinished fs → In f fs → Finished f
-finished-in f (g ∷ fs) w here = w.0
-finished-in f (g ∷ fs) w (there i) = finished_in f fs w.1 i
+finished_in f (g ∷ fs) w here = w.0
+finished_in f (g ∷ fs) w (there i) = finished_in f fs w.1 i
 
 -- ---- all stated bytes were dropped exactly when every frame that has some was
 gone-le : (fs : List Frame) → stated_in (gone_of fs) ≤ stated_of fs

@@ -76,7 +76,7 @@ sum-only c i (suc n) = ap (λ (s : ℕ). get_or c.disk i 0 + s) (sum-only c (suc
 
 pub sum_open : (disk : List ℕ) (i n : ℕ) → i < n → disk_sum (rows (only disk) i (n - i)) ≡ get_or disk i 0 + disk_sum (rows (only disk) (i + 1) (n - (i + 1)))
 unfolding disk_sum
-sum-open disk i n h = ap disk_sum (rows_open (only disk) i n h)
+sum_open disk i n h = ap disk_sum (rows_open (only disk) i n h)
 
 pub sum-out : (disk : List ℕ) (i n : ℕ) → n ≤ i → disk_sum (rows (only disk) i (n - i)) ≡ 0
 unfolding disk_sum

@@ -25,8 +25,8 @@ le_or_gt a b = go (leb a b) (leb→le a b) (nleb→lt a b)
     go false h k = inr (k tt)
 
 -- ---- how many digits
-size-zero : size 0 ≡ 0
-size-zero = omega (arith, size-le 0 0 (pow_pos 0))
+size_zero : size 0 ≡ 0
+size_zero = omega (arith, size-le 0 0 (pow_pos 0))
 
 pub size_is : (x j : ℕ) → 2 ^ j ≤ x → x < 2 ^ suc j → size x ≡ suc j
 size_is x j a b =
@@ -43,7 +43,7 @@ bit_at k h = shl_exact {a = 1} 1 k 64 (omega arith) (omega arith) ∙ one-mul (2
 
 -- ---- what `compare` says
 pub cmp_lt : (a b : ℕ) → a < b → compare a b ≡ Ordering.lt
-cmp-lt a b h = go (compare a b) (nleb→lt a b) (eqb→eq a b)
+cmp_lt a b h = go (compare a b) (nleb→lt a b) (eqb→eq a b)
   where
     go : (o : Ordering) → (T (not (is_le o)) → b < a) → (T (compare_is_eq o) → a ≡ b) → o ≡ Ordering.lt
     go Ordering.lt k e = refl
@@ -51,7 +51,7 @@ cmp-lt a b h = go (compare a b) (nleb→lt a b) (eqb→eq a b)
     go Ordering.gt k e = absurd (omega (arith, k tt))
 
 pub cmp_eq : (a b : ℕ) → a ≡ b → compare a b ≡ Ordering.eq
-cmp-eq a b h = go (compare a b) (eq-eqb a b h)
+cmp_eq a b h = go (compare a b) (eq-eqb a b h)
   where
     go : (o : Ordering) → compare_is_eq o ≡ true → o ≡ Ordering.eq
     go Ordering.lt e = let z : ◌≡◌ {A = ℕ} 0 1 = cc in absurd (omega arith)
@@ -59,7 +59,7 @@ cmp-eq a b h = go (compare a b) (eq-eqb a b h)
     go Ordering.gt e = let z : ◌≡◌ {A = ℕ} 0 1 = cc in absurd (omega arith)
 
 pub cmp_gt : (a b : ℕ) → b < a → compare a b ≡ Ordering.gt
-cmp-gt a b h = go (compare a b) (leb→le a b)
+cmp_gt a b h = go (compare a b) (leb→le a b)
   where
     go : (o : Ordering) → (T (is_le o) → a ≤ b) → o ≡ Ordering.gt
     go Ordering.lt k = absurd (omega (arith, k tt))
@@ -84,7 +84,7 @@ pub down_is : (x k u : ℕ) → u ≡ 2 ^ k → x % u * 2 < u → x / u ≡ roun
 down_is x k u e h = rw (← e, cmp_lt (x % u * 2) u h)
 
 pub tie_is : (x k u : ℕ) → u ≡ 2 ^ k → x % u * 2 ≡ u → x / u + x / u % 2 ≡ rounded k x
-tie-is x k u e h = rw (← e, cmp_eq (x % u * 2) u h)
+tie_is x k u e h = rw (← e, cmp_eq (x % u * 2) u h)
 
 pub up_is : (x k u : ℕ) → u ≡ 2 ^ k → u < x % u * 2 → x / u + 1 ≡ rounded k x
 up_is x k u e h = rw (← e, cmp_gt (x % u * 2) u h, add-one)
@@ -98,4 +98,4 @@ one_more_lem x u p h l =
 
 pub in_float : (n : ℕ) → n ≤ 2 ^ 24 → T (in_float binary32 (pos n))
 unfolding in_float
-in-float n h = le→leb n (2 ^ 24) h
+in_float n h = le→leb n (2 ^ 24) h

@@ -27,8 +27,8 @@ rescale (fin t m e) w l num p h v =
     (v.0, eq_of_mul-eq-mul_right l p (m * up e * 1) (num * down e) (ap (λ (x : ℕ). x * l) (mul-one (m * up e)) ∙ v.1 ∙ ap (λ (x : ℕ). x * down e) (sym h) ∙ mul_right_comm num l (down e)))
 
 -- in units of the smallest value
-in-units : (q j : ℕ) → q * 2 ^ j * 2 ^ 149 ≡ q * 2 ^ (j + 149) * 1
-in-units q j = mul_assoc q (2 ^ j) (2 ^ 149) ∙ ap (λ (x : ℕ). q * x) (sym (pow-add 2 j 149)) ∙ sym (mul-one (q * 2 ^ (j + 149)))
+in_units : (q j : ℕ) → q * 2 ^ j * 2 ^ 149 ≡ q * 2 ^ (j + 149) * 1
+in_units q j = mul_assoc q (2 ^ j) (2 ^ 149) ∙ ap (λ (x : ℕ). q * x) (sym (pow-add 2 j 149)) ∙ sym (mul-one (q * 2 ^ (j + 149)))
 
 -- q * 2 ^ j is a float as it stands, for a q of 24 bits or 2 ^ 24 itself
 exact-under : (q j : ℕ) → q < 2 ^ 24 → j ≤ 64 → HasValue (round binary32 false (q * 2 ^ j) 1) false (q * 2 ^ j) 1
@@ -46,8 +46,8 @@ exact q j h k = ⊎_elim
     (eq-or-lt_of_le h)
 
 -- ---- the number rounded has the value that the integers have
-size-up : (x t : ℕ) → 0 < size x → size (x * 2 ^ t) ≡ size x + t
-size-up x t z =
+size_up : (x t : ℕ) → 0 < size x → size (x * 2 ^ t) ≡ size x + t
+size_up x t z =
     let lo : 2 ^ (size x - 1 + t) ≤ x * 2 ^ t = le_trans (le_of_eq (pow-add 2 (size x - 1) t)) (mul-le-mul_right (2 ^ t) (size_reaches x (size x - 1) (omega arith))) in
     let u : suc (size x - 1 + t) ≡ size x + t = omega arith in
     let hi : x * 2 ^ t < 2 ^ suc (size x - 1 + t) = rw u (shl_lt (size x) t (size-lt x)) in

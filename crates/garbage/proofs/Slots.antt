@@ -43,8 +43,8 @@ take_put (suc n) (suc i) (e ∷ xs) x h q = ap (λ (l : List ℕ). e ∷ l) (tak
 
 pub ascending_is : (lo : ℕ) (l : List Entry) → ascending_from lo l ≡ rising_from lo (ids_of l)
 unfolding ascending_from rising_from
-ascending-is lo [] = refl
-ascending-is lo (e ∷ l) = ap (λ (b : Bool). leb lo e.id && b) (ascending_is (suc e.id) l)
+ascending_is lo [] = refl
+ascending_is lo (e ∷ l) = ap (λ (b : Bool). leb lo e.id && b) (ascending_is (suc e.id) l)
 
 -- ---- entries of columns
 module _ (c : Columns) where

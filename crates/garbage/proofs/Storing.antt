@@ -52,7 +52,7 @@ put_more c i b₀ b b' e p q r =
 
 pub put_none : (c : Columns) (b : List ℕ) → b ≡ sets b 4 (entries_bytes (rows c 0 0))
 unfolding entries_bytes
-put-none c b = sym (ap (λ (l : List Entry). sets b 4 (entries_bytes l)) (rows_zero c))
+put_none c b = sym (ap (λ (l : List Entry). sets b 4 (entries_bytes l)) (rows_zero c))
 
 -- ---- reading
 pub entries-length : (n : ℕ) (s : List ℕ) → length (entries_in n s) ≡ n
@@ -77,8 +77,8 @@ latter-id x e h = sym h
 
 pub instead_ascending : (es l : List Entry) → ascending_from 0 l ≡ true → ascending_from 0 (instead_all es l) ≡ true
 unfolding instead_all
-instead-ascending [] l t = t
-instead-ascending (e ∷ es) l t = instead_ascending es (instead e l) (add_ascending latter latter-id 0 e l (omega arith) t)
+instead_ascending [] l t = t
+instead_ascending (e ∷ es) l t = instead_ascending es (instead e l) (add_ascending latter latter-id 0 e l (omega arith) t)
 
 pub instead-length : (es l : List Entry) → length (instead_all es l) ≤ length es + length l
 unfolding instead_all
@@ -87,7 +87,7 @@ instead-length (e ∷ es) l = omega (arith, instead-length es (instead e l), (ad
 
 none_ascending : ascending_from 0 [] ≡ true
 unfolding ascending_from
-none-ascending = refl
+none_ascending = refl
 
 module _ (c : Columns) (w : Whole c) (s : List ℕ) where
   -- what the first i entries make

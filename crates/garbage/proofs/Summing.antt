@@ -103,8 +103,8 @@ all_append (e ∷ es) fs l = all_append es fs (added e l)
 
 pub all_swap : (es fs l : List Entry) → added_all es (added_all fs l) ≡ added_all fs (added_all es l)
 unfolding added_all
-all-swap [] fs l = refl
-all-swap (e ∷ es) fs l = ap (added_all es) (sym (all_one fs e l)) ∙ all_swap es fs (added e l)
+all_swap [] fs l = refl
+all_swap (e ∷ es) fs l = ap (added_all es) (sym (all_one fs e l)) ∙ all_swap es fs (added e l)
 
 -- adding a list that an entry was added to
 pub all-added : (b a : List Entry) (e : Entry) → added_all (added e b) a ≡ added e (added_all b a)
@@ -153,7 +153,7 @@ turn-made e es l f k = ap (λ (o : Outcome). afterwards o (in_turn es)) (judged-
 
 turn_full : (e : Entry) (es l : List Entry) → all_fit (added e l) ≡ true → 64 < length (added e l) → in_turn (e ∷ es) l ≡ mapFull
 unfolding in_turn
-turn-full e es l f k = ap (λ (o : Outcome). afterwards o (in_turn es)) (judged_full (added e l) f k)
+turn_full e es l f k = ap (λ (o : Outcome). afterwards o (in_turn es)) (judged_full (added e l) f k)
 
 turn-none : (l : List Entry) → in_turn [] l ≡ made l
 unfolding in_turn
@@ -174,7 +174,7 @@ turns_judged (e ∷ es) l f k =
 -- what the turns made is the whole
 pub turns_made : (es l r : List Entry) → ascending_from 0 l ≡ true → all_fit l ≡ true → length l ≤ 64 → in_turn es l ≡ made r → (r ≡ added_all es l) × (all_fit (added_all es l) ≡ true) × (length (added_all es l) ≤ 64)
 unfolding in_turn added_all
-turns-made [] l r t f k h = (cc, f, k)
+turns_made [] l r t f k h = (cc, f, k)
 turns_made (e ∷ es) l r t f k h = go (judged (added e l)) (made-is (added e l)) (turns_made es (added e l) r (add_in_order e l t)) h
   where
     go : (o : Outcome) → ((m : List Entry) → o ≡ made m → (m ≡ added e l) × (all_fit (added e l) ≡ true) × (length (added e l) ≤ 64))
@@ -209,8 +209,8 @@ plus-nothing e = entry-is refl (omega arith) (omega arith) (omega arith)
 
 pub total_above : (id lo : ℕ) (l : List Entry) → id < lo → ascending_from lo l ≡ true → total_of id l ≡ nothing id
 unfolding ascending_from
-total-above id lo [] h t = total-none id
-total-above id lo (x ∷ l) h t =
+total_above id lo [] h t = total-none id
+total_above id lo (x ∷ l) h t =
     let a : lo ≤ x.id = leb-true lo x.id (and_l (leb lo x.id) (ascending_from (suc x.id) l) t) in
     total-past id x l (λ z. omega arith) ∙ total_above id (suc x.id) l (omega arith) (and_r (leb lo x.id) (ascending_from (suc x.id) l) t)
 
@@ -253,21 +253,21 @@ total-other id e (x ∷ l) h = tri x.id e.id
 
 sums_other : (lo : ℕ) (e : Entry) (es l : List Entry) → e.id < lo → ascending_from lo es ≡ true → sums_fit es (added e l) ≡ sums_fit es l
 unfolding ascending_from sums_fit
-sums-other lo e [] l h t = refl
-sums-other lo e (x ∷ es) l h t =
+sums_other lo e [] l h t = refl
+sums_other lo e (x ∷ es) l h t =
     let a : lo ≤ x.id = leb-true lo x.id (and_l (leb lo x.id) (ascending_from (suc x.id) es) t) in
     ap₂ (λ (y : Entry) (b : Bool). fits (plus y x) && b) (total-other x.id e l (λ z. omega arith)) (sums_other (suc x.id) e es l (omega arith) (and_r (leb lo x.id) (ascending_from (suc x.id) es) t))
 
 unfit_more : (es l : List Entry) → all_fit l ≡ false → all_fit (added_all es l) ≡ false
-unfit-more es l h = by_test (all_fit (added_all es l))
+unfit_more es l h = by_test (all_fit (added_all es l))
     (λ t. absurd (let u = fit_all es l t in let z : ◌≡◌ {A = ℕ} 0 1 = cc in omega arith))
     (λ t. t)
 
 -- the sums tested one by one beforehand are the test of the whole
 pub sums_are : (lo : ℕ) (es l : List Entry) → ascending_from lo es ≡ true → ascending_from 0 l ≡ true → all_fit l ≡ true → sums_fit es l ≡ all_fit (added_all es l)
 unfolding ascending_from sums_fit added_all
-sums-are lo [] l t s f = sym f
-sums-are lo (e ∷ es) l t s f =
+sums_are lo [] l t s f = sym f
+sums_are lo (e ∷ es) l t s f =
     let b = and_r (leb lo e.id) (ascending_from (suc e.id) es) t in
     let o : fits (plus (total_of e.id l) e) ≡ all_fit (added e l) = own-total e 0 l s f in
     by_test (all_fit (added e l))

@@ -69,7 +69,7 @@ unfolding of_file
 of_none id = refl
 
 pub of_append : (id : ℕ) (ps qs : List BlobIndirection) → of_file id (ps ++ qs) ≡ of_file id ps ++ of_file id qs
-of-append id [] qs = ap (λ (t : List BlobIndirection). t ++ of_file id qs) (sym (of_none id))
+of_append id [] qs = ap (λ (t : List BlobIndirection). t ++ of_file id qs) (sym (of_none id))
 of_append id (p ∷ ps) qs = same_or p.handle.file id
     (λ h. of_own id p (ps ++ qs) h ∙ ap (λ (t : List BlobIndirection). p ∷ t) (of_append id ps qs) ∙ ap (λ (t : List BlobIndirection). t ++ of_file id qs) (sym (of_own id p ps h)))
     (λ h. of_other id p (ps ++ qs) h ∙ of_append id ps qs ∙ ap (λ (t : List BlobIndirection). t ++ of_file id qs) (sym (of_other id p ps h)))
@@ -85,7 +85,7 @@ one_more_lem id p (q ∷ qs) h = ap Found (entry-is refl (omega arith) (add_comm
 
 none_ascending : ascending_from 0 [] ≡ true
 unfolding ascending_from
-none-ascending = refl
+none_ascending = refl
 
 pub tallied : (id : ℕ) (ps : List BlobIndirection) → found id (added_all (ones ps) []) ≡ tally id (of_file id ps)
 tallied id [] = ap (found id) (all_none []) ∙ found_in_none id ∙ ap (tally id) (sym (of_none id))

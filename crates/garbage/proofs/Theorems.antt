@@ -42,7 +42,7 @@ own-entry m n id other r s threshold p q e t =
 
 any_spelling_lem : AnySpelling
 unfolding pick
-any-spelling m p bytes used t e = rw (e, spelled p t)
+any_spelling_lem m p bytes used t e = rw (e, spelled p t)
 
 pub theorems : Theorems
 theorems = record {

@@ -21,7 +21,7 @@ pub plus-id : (x e : Entry) → x.id ≡ e.id → (plus x e).id ≡ x.id
 plus-id x e h = refl
 
 pub add_in_order : (e : Entry) (l : List Entry) → ascending_from 0 l ≡ true → ascending_from 0 (added e l) ≡ true
-add-in-order e l t = add_ascending plus plus-id 0 e l (omega arith) t
+add_in_order e l t = add_ascending plus plus-id 0 e l (omega arith) t
 
 -- ---- one turn
 ready-order : (n : ℕ) (c : Columns) → Ready n c → ascending_from 0 (rows c 0 n) ≡ true
@@ -97,4 +97,4 @@ fold_more t t' t'' s i e p q r =
 
 pub fold_none : (t : State) (s : Columns) → t ≡ fold_of t (rows s 0 0)
 unfolding fold_of
-fold-none t s = sym (ap (fold_of t) (rows_zero s))
+fold_none t s = sym (ap (fold_of t) (rows_zero s))

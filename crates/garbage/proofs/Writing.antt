@@ -118,8 +118,8 @@ moved : {p q : BlobIndirection} → p ≡ q → Typed q → Typed p
 moved e t = rw e t
 
 typed_perm : {ps qs : List BlobIndirection} → Permᴰ ps qs → AllTyped qs → AllTyped ps
-typed-perm Permᴰ.nil t = tt
-typed-perm (Permᴰ.cons e d) t = (moved e t.0, typed_perm d t.1)
+typed_perm Permᴰ.nil t = tt
+typed_perm (Permᴰ.cons e d) t = (moved e t.0, typed_perm d t.1)
 typed_perm (Permᴰ.swap p q) t = (moved p t.1.0, (moved q t.0, t.1.1))
 typed_perm (Permᴰ.trans d e) t = typed_perm d (typed_perm e t)
 
@@ -129,7 +129,7 @@ written-same-bytes fs a b m z d p q e =
     same_bytes_lem a b m (typed_perm p t) (typed_perm q t) (Permᴰ.trans p (Permᴰ.symm q)) e
 
 pub written_dead_exactly_lem : WrittenDeadExactly
-written-dead-exactly fs a m f report z d i r p e =
+written_dead_exactly_lem fs a m f report z d i r p e =
     let t : AllTyped (all_gone (files_of fs)) = typed-all (files_of fs) (all_finished fs z) in
     ap (dead_of m f.writer.id) (sym (reported f (from_zero f fs z i) report r))
     ∙ dead_exactly_lem (files_of fs) a m (file_of f) (all_finished fs z) d (among f fs i) (typed_perm p t) p e

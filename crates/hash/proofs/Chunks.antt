@@ -19,21 +19,21 @@ use Rattle.hash.proofs.Small.{first64, next64}
 -- the words read from i on
 pub chunk_law : (s : List ℕ) (i x y : ℕ) → x ≡ num 8 (drop i s) → y ≡ num 8 (drop (i + 8) s) → ◌≡◌ {A = Two} (record { x = x; y = y }) (two_at s i)
 unfolding two_at
-chunk-law s i x y ex ey = rw (first64 s i, next64 s i, ex, ey)
+chunk_law s i x y ex ey = rw (first64 s i, next64 s i, ex, ey)
 
 -- one accumulator: f is the folded product, p the sum with it, q the sum of the other two words
 pub half_law : (acc x y a b u v f p q : ℕ) → f ≡ fold_of (bit_xor x a) (bit_xor y b) → p ≡ add64 acc f → q ≡ add64 u v → bit_xor p q ≡ mix_half acc x y a b u v
-half-law acc x y a b u v f p q ef ep eq = rw (ep, ef, eq)
+half_law acc x y a b u v f p q ef ep eq = rw (ep, ef, eq)
 
 -- both of them
 pub halves_law : (p q : Two) (k : Key) (acc : Acc) (l h : ℕ) → l ≡ mix_half acc.a0 p.x p.y k.a k.b q.x q.y → h ≡ mix_half acc.a1 q.x q.y k.c k.d p.x p.y → ◌≡◌ {A = Acc} (record { a0 = l; a1 = h }) (mix_two p q k acc)
 unfolding mix_two
-halves-law p q k acc l h el eh = rw (el, eh)
+halves_law p q k acc l h el eh = rw (el, eh)
 
 -- two chunks of a string, mixed
 pub mixed_law : (s : List ℕ) (i j : ℕ) (p q : Two) (k : Key) (acc r : Acc) → p ≡ two_at s i → q ≡ two_at s j → r ≡ mix_two p q k acc → r ≡ mix_keyed (u64s s i) (u64s s j) k acc
 unfolding two_at mix_keyed
-mixed-law s i j p q k acc r ep eq e = rw (ep, eq) at e
+mixed_law s i j p q k acc r ep eq e = rw (ep, eq) at e
 
 -- with the secret's words, the two chunks are mixed
 keyed : (x u : ℕ → ℕ) (o : ℕ) (acc : Acc) → mix_keyed x u (key_at o) acc ≡ mix_two_chunks x u o seed acc
@@ -188,7 +188,7 @@ module _ (s : List ℕ) where
 -- both accumulators, stirred
 pub stir_law : (acc : Acc) (l h : ℕ) → l ≡ avalanche acc.a0 → h ≡ avalanche acc.a1 → ◌≡◌ {A = Acc} (record { a0 = l; a1 = h }) (avalanche_both acc)
 unfolding avalanche_both
-stir-law acc l h el eh = rw (el, eh)
+stir_law acc l h el eh = rw (el, eh)
 
 -- the three products and their sum
 pub weighed_law : (acc : Acc) (n a b c p q : ℕ) → a ≡ mul64 acc.a0 PRIME64_1 → b ≡ mul64 acc.a1 PRIME64_4 → p ≡ add64 a b → c ≡ mul64 n PRIME64_2 → q ≡ add64 p c → q ≡ add64 (add64 (mul64 acc.a0 PRIME64_1) (mul64 acc.a1 PRIME64_4)) (mul64 n PRIME64_2)
@@ -201,5 +201,5 @@ less_none n h = omega arith
 pub finish_law : (n w t l g h : ℕ) (acc : Acc) → n < 2 ^ 64 → t ≡ add64 acc.a0 acc.a1 → l ≡ avalanche t → w ≡ add64 (add64 (mul64 acc.a0 PRIME64_1) (mul64 acc.a1 PRIME64_4)) (mul64 n PRIME64_2) → g ≡ avalanche w → h ≡ sub64 0 g
     → ◌≡◌ {A = Hash128} (record { low = l; high = h }) (XXH3_128_17to240 n acc)
 unfolding XXH3_128_17to240
-finish-law n w t l g h acc b et el ew eg eh =
+finish_law n w t l g h acc b et el ew eg eh =
     rw (less_none n b, el, et, eh, eg, ew)

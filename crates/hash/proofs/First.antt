@@ -11,39 +11,39 @@ use Rattle.hash.specs.declared.medium.Two.{Two}
 
 lane_is : (s : List ℕ) (i : ℕ) (acc : List ℕ) → lane_of i (u64s s 0 i) (u64s secret 0 i) acc ≡ accumulate_lane (u64s s 0) (u64s secret 0) i acc
 unfolding lane_of accumulate_lane
-lane-is s i acc = refl
+lane_is s i acc = refl
 
 word_0 : u64s secret 0 0 ≡ 0xbe4ba423396cfeb8
 unfolding u64s num secret
-word-0 = refl
+word_0 = refl
 
 word_1 : u64s secret 0 1 ≡ 0x1cad21f72c81017c
 unfolding u64s num secret
-word-1 = refl
+word_1 = refl
 
 word_2 : u64s secret 0 2 ≡ 0xdb979083e96dd4de
 unfolding u64s num secret
-word-2 = refl
+word_2 = refl
 
 word_3 : u64s secret 0 3 ≡ 0x1f67b3b7a4a44072
 unfolding u64s num secret
-word-3 = refl
+word_3 = refl
 
 word_4 : u64s secret 0 4 ≡ 0x78e5c0cc4ee679cb
 unfolding u64s num secret
-word-4 = refl
+word_4 = refl
 
 word_5 : u64s secret 0 5 ≡ 0x2172ffcc7dd05a82
 unfolding u64s num secret
-word-5 = refl
+word_5 = refl
 
 word_6 : u64s secret 0 6 ≡ 0x8e2443f7744608b8
 unfolding u64s num secret
-word-6 = refl
+word_6 = refl
 
 word_7 : u64s secret 0 7 ≡ 0x4c263a81e69035e0
 unfolding u64s num secret
-word-7 = refl
+word_7 = refl
 
 -- two lanes with the words of a chunk
 module _ (s : List ℕ) where

@@ -16,8 +16,8 @@ Bytes l = (i : ℕ) → get_or l i 0 < 256
 
 num_nil : (n : ℕ) → num n [] ≡ 0
 unfolding num
-num-nil zero = refl
-num-nil (suc n) = refl
+num_nil zero = refl
+num_nil (suc n) = refl
 
 -- the first a bytes, and b more
 num-plus : (a b : ℕ) (l : List ℕ) → num (a + b) l ≡ num a l + 256 ^ a * num b (drop a l)

@@ -13,7 +13,7 @@ word_take : (k n : ℕ) (l : List ℕ) → k + 8 ≤ n → num 8 (drop k (take n
 word_take zero n l h = num-take 8 n l (omega arith)
 word_take (suc k) zero l h = absurd (omega arith)
 word_take (suc k) (suc n) [] h = refl
-word-take (suc k) (suc n) (b ∷ bs) h = word_take k n bs (omega arith)
+word_take (suc k) (suc n) (b ∷ bs) h = word_take k n bs (omega arith)
 
 pub same_words : (a b : List ℕ) (i j n : ℕ) → take n (drop i a) ≡ take n (drop j b) → (k : ℕ) → k + 8 ≤ n → num 8 (drop (i + k) a) ≡ num 8 (drop (j + k) b)
 same_words a b i j n e k h =

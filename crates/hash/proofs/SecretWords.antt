@@ -12,12 +12,12 @@ use Rattle.hash.proofs.Stripes.{lanes-same, stripes_plus}
 use Rattle.hash.proofs.Tables.{eight, at-eight, tail, words_tail}
 
 -- words that are the secret's from o on
-with-secret : (s : List ℕ) (i o : ℕ) (w x : List ℕ) → ((k : ℕ) → k < 8 → get_or w k 0 ≡ u64s secret o k) → with_words s i w x ≡ accumulate (u64s s i) o x
+with_secret : (s : List ℕ) (i o : ℕ) (w x : List ℕ) → ((k : ℕ) → k < 8 → get_or w k 0 ≡ u64s secret o k) → with_words s i w x ≡ accumulate (u64s s i) o x
 unfolding accumulate
-with-secret s i o w x e = lanes-same (u64s s i) (u64s s i) (λ (k : ℕ). get_or w k 0) (u64s secret o) (λ k h. refl) e x
+with_secret s i o w x e = lanes-same (u64s s i) (u64s s i) (λ (k : ℕ). get_or w k 0) (u64s secret o) (λ k h. refl) e x
 
 pub last_law : (s : List ℕ) (i : ℕ) (x r : List ℕ) → r ≡ with_words s i tail x → r ≡ accumulate (u64s s i) (secret_length - 71) x
-last-law s i x r e = e ∙ with_secret s i (secret_length - 71) tail x words_tail
+last_law s i x r e = e ∙ with_secret s i (secret_length - 71) tail x words_tail
 
 -- the words that each stripe takes
 abbrev first : List ℕ
@@ -46,11 +46,11 @@ eighth = 0x4c263a81e69035e0 ∷ 0xcb00c391bb52283c ∷ 0xa32e531b8b65d088 ∷ 0x
 
 words_first : (k : ℕ) → k < 8 → get_or first k 0 ≡ u64s secret 0 k
 unfolding u64s num secret
-words-first k h = at-eight (u64s secret 0) k h
+words_first k h = at-eight (u64s secret 0) k h
 
 first_stripe : (s x a : List ℕ) → a ≡ with_words s 0 first x → a ≡ stripes_of s 0 0 1 x
 unfolding for_up step_at block_end pick
-first-stripe s x a e = e ∙ with_secret s 0 0 first x words_first
+first_stripe s x a e = e ∙ with_secret s 0 0 first x words_first
 
 -- the first, and n - 1 after it
 pub from_first : (s : List ℕ) (n : ℕ) (x a r : List ℕ) → 0 < n → a ≡ with_words s 0 first x → r ≡ stripes_of (take (length s) s) 64 1 (n - 1) a → r ≡ stripes_of s 0 0 n x

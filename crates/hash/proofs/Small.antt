@@ -11,23 +11,23 @@ use Rattle.hash.specs.Shape.{mix4to8, end4to8, mix9to16, end9to16}
 
 flip_0 : add64 (bit_xor (u32s secret 0 0) (u32s secret 0 1)) seed ≡ 0x87275a9b
 unfolding u32s num secret
-flip-0 = refl
+flip_0 = refl
 
 flip_8 : sub64 (bit_xor (u32s secret 0 2) (u32s secret 0 3)) seed ≡ 0x302c208b
 unfolding u32s num secret
-flip-8 = refl
+flip_8 = refl
 
 flip_16 : add64 (bit_xor (u64s secret 16 0) (u64s secret 16 1)) modified_seed ≡ 0xc4f023344dc994ac
 unfolding u64s num secret modified_seed bswap le
-flip-16 = refl
+flip_16 = refl
 
 flip_32 : sub64 (bit_xor (u64s secret 32 0) (u64s secret 32 1)) seed ≡ 0x59973f0033362349
 unfolding u64s num secret
-flip-32 = refl
+flip_32 = refl
 
 flip_48 : add64 (bit_xor (u64s secret 32 2) (u64s secret 32 3)) seed ≡ 0xc202797692d63d58
 unfolding u64s num secret
-flip-48 = refl
+flip_48 = refl
 
 module _ (s : List ℕ) (i : ℕ) where
   first32 : u32s s i 0 ≡ num 4 (drop i s)
@@ -64,7 +64,7 @@ add-halves : (h a b : ℕ) → add64 (add64 h (a % 2 ^ 64)) (b % 2 ^ 64) ≡ (h 
 add-halves h a b = omega arith
 
 whole_and_half : (v : ℕ) → v + v % 2 ^ 32 * 0x85ebca76 ≡ v / 2 ^ 32 * 2 ^ 32 + v % 2 ^ 32 * PRIME32_2
-whole-and-half v = omega arith
+whole_and_half v = omega arith
 
 val2_sum : (h v : ℕ) → add64 (add64 h v) (v % 2 ^ 32 * 0x85ebca76) ≡ add64 (add64 h (shl64 (v / 2 ^ 32) 32)) (mul64 (v % 2 ^ 32) PRIME32_2)
 val2_sum h v =
@@ -73,19 +73,19 @@ val2_sum h v =
 -- 4-8 and 9-16 bytes: the steps after the words are read, in turn
 pub end_8_law : (l h y a : ℕ) → y ≡ mul64 (bit_xor (bit_xor l (h / 2 ^ 3)) (bit_xor l (h / 2 ^ 3) / 2 ^ 35)) PRIME_MX2 → a ≡ avalanche h → ◌≡◌ {A = Hash128} (record { low = bit_xor y (y / 2 ^ 28); high = a }) (end4to8 l h)
 unfolding end4to8
-end-8-law l h y a ey ea = rw (ey, ea)
+end_8_law l h y a ey ea = rw (ey, ea)
 
 pub mix_8_law : (x y l g h : ℕ) (r : Hash128) → l ≡ mul64 x y → g ≡ x * y / 2 ^ 64 → h ≡ add64 g (shl64 l 1) → r ≡ end4to8 l h → r ≡ mix4to8 (x * y)
 unfolding mix4to8
-mix-8-law x y l g h r el eg eh e = rw (e, eh, eg, el)
+mix_8_law x y l g h r el eg eh e = rw (e, eh, eg, el)
 
 pub end_16_law : (l h w g m y p a b : ℕ) → w ≡ bswap 8 h → g ≡ bit_xor l w * PRIME64_2 / 2 ^ 64 → m ≡ mul64 h PRIME64_2 → y ≡ add64 g m → p ≡ mul64 (bit_xor l w) PRIME64_2 → a ≡ avalanche p → b ≡ avalanche y → ◌≡◌ {A = Hash128} (record { low = a; high = b }) (end9to16 l h)
 unfolding end9to16
-end-16-law l h w g m y p a b ew eg em ey ep ea eb = rw (ea, ep, eb, ey, eg, em, ew)
+end_16_law l h w g m y p a b ew eg em ey ep ea eb = rw (ea, ep, eb, ey, eg, em, ew)
 
 pub mix_16_law : (x v n m l g w h : ℕ) (r : Hash128) → m ≡ mul64 x PRIME64_1 → l ≡ add64 m (shl64 (n - 1) 54) → g ≡ x * PRIME64_1 / 2 ^ 64 → w ≡ add64 g v → h ≡ add64 w (v % 2 ^ 32 * 0x85ebca76) → r ≡ end9to16 l h → r ≡ mix9to16 (x * PRIME64_1) v n
 unfolding mix9to16
-mix-16-law x v n m l g w h r em el eg ew eh e = rw (e, el, em, eh, ew, eg, val2_sum (x * PRIME64_1 / 2 ^ 64) v)
+mix_16_law x v n m l g w h r em el eg ew eh e = rw (e, el, em, eh, ew, eg, val2_sum (x * PRIME64_1 / 2 ^ 64) v)
 
 -- what the code computes is the description's
 module _ (s : List ℕ) where

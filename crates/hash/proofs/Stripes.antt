@@ -12,7 +12,7 @@ use Rattle.hash.proofs.Parts.{same_words}
 -- one lane of the description is one of the code
 pub lane_same : (f u : ℕ → ℕ) (k : ℕ) (x : List ℕ) → accumulate_lane f u k x ≡ lane_of k (f k) (u k) x
 unfolding accumulate_lane lane_of
-lane-same f u k x = refl
+lane_same f u k x = refl
 
 pub lanes-same : (f g u v : ℕ → ℕ) → ((k : ℕ) → k < 8 → f k ≡ g k) → ((k : ℕ) → k < 8 → u k ≡ v k) → (x : List ℕ) → for_up 8 (accumulate_lane f u) x ≡ for_up 8 (accumulate_lane g v) x
 lanes-same f g u v p q x =
@@ -40,7 +40,7 @@ module _ (a b : List ℕ) (i j : ℕ) where
 -- p stripes, and then q more
 pub stripes_plus : (a : List ℕ) (i t p q : ℕ) (x : List ℕ) → stripes_of a i t (p + q) x ≡ stripes_of a (i + 64 * p) (t + p) q (stripes_of a i t p x)
 unfolding step_at
-stripes-plus a i t p q x =
+stripes_plus a i t p q x =
     for_up-plus p q (step_at a i t) x
     ∙ for_up-same q (λ (k : ℕ). step_at a i t (p + k)) (step_at a (i + 64 * p) (t + p)) (stripes_of a i t p x)
     (λ k h y.
@@ -50,4 +50,4 @@ stripes-plus a i t p q x =
 
 -- of a slice up to its length
 pub whole_stripes : (s : List ℕ) (n : ℕ) (x r : List ℕ) → r ≡ stripes_of (take (length s) s) 0 0 n x → r ≡ stripes_of s 0 0 n x
-whole-stripes s n x r e = rw (take-length s) at e
+whole_stripes s n x r e = rw (take-length s) at e

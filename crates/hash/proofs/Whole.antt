@@ -10,7 +10,7 @@ use Rattle.hash.proofs.Loops.{for_up-same, for_up-plus}
 
 per_block : stripes_per_block ≡ 16
 unfolding stripes_per_block secret_length secret
-per-block = refl
+per_block = refl
 
 block_size_lem : block_size ≡ 1024
 unfolding block_size stripes_per_block secret_length secret

@@ -22,7 +22,7 @@ avalanche-lt x = stirred (bit_xor x (x / 2 ^ 37) * PRIME_MX1) 32
 
 avalanche_XXH64_lt : (x : ℕ) → avalanche_XXH64 x < 2 ^ 64
 unfolding avalanche_XXH64
-avalanche-XXH64-lt x =
+avalanche_XXH64_lt x =
     let y = mul64 (bit_xor x (x / 2 ^ 33)) PRIME64_2 in
     stirred (bit_xor y (y / 2 ^ 29) * PRIME64_3) 32
 

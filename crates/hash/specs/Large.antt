@@ -33,7 +33,7 @@ unfoldable pub accumulate_nth : List ℕ → ℕ → ℕ → List ℕ → List �
 accumulate_nth input block n = accumulate (u64s input (block + n * 64)) (n * 8)
 
 unfoldable pub round_accumulate : List ℕ → ℕ → List ℕ → List ℕ
-round-accumulate input block = for_up stripes_per_block (accumulate_nth input block)
+round_accumulate input block = for_up stripes_per_block (accumulate_nth input block)
 
 -- "Step 2-2. Scramble accumulators": the loop's body, round_scramble() and round()
 unfoldable pub scramble_lane : (ℕ → ℕ) → ℕ → List ℕ → List ℕ
@@ -44,7 +44,7 @@ scramble_lane secretWords i acc =
     slice_set acc i (mul64 a₂ PRIME32_1)
 
 unfoldable pub round_scramble : List ℕ → List ℕ
-round-scramble =
+round_scramble =
     let secretWords = u64s secret (secret_length - 64) in
     for_up 8 (scramble_lane secretWords)
 
@@ -82,7 +82,7 @@ final_merge acc initValue secretOffset =
     avalanche (for_up 4 (merge_lanes acc secretWords) initValue)
 
 unfoldable pub XXH3_128_large : List ℕ → Hash128
-XXH3-128-large input =
+XXH3_128_large input =
     let inputLength = length input in
     let acc = accumulated input in
     record {

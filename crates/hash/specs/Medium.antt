@@ -31,7 +31,7 @@ round_inward input i =
     mix_two_chunks (u64s input offsetStart) (u64s input offsetEnd) (i * 32) seed
 
 unfoldable pub process_input_17to128 : List ℕ → Acc → Acc
-processInput-17to128 input =
+process_input_17to128 input =
     let numRounds = (length input - 1) / 2 ^ 5 + 1 in
     for_down numRounds (round_inward input)
 
@@ -47,7 +47,7 @@ chunk_after_128 input i = mix_two_chunks (u64s input (i * 32)) (u64s input (i * 
 
 -- for (i = 4; i < numChunks; i++) makes numChunks - 4 turns, the k-th with i = 4 + k
 unfoldable pub process_input_129to240 : List ℕ → Acc → Acc
-processInput-129to240 input acc =
+process_input_129to240 input acc =
     let inputLength = length input in
     let numChunks = inputLength / 2 ^ 5 in
     let acc₁ = for_up 4 (chunk_of_128 input) acc in
@@ -57,7 +57,7 @@ processInput-129to240 input acc =
 
 -- "Step 3. Finalization": XXH3_128_17to240()
 unfoldable pub XXH3_128_17to240 : ℕ → Acc → Hash128
-XXH3-128-17to240 inputLength acc =
+XXH3_128_17to240 inputLength acc =
     let low = add64 acc.a0 acc.a1 in
     let high = add64 (add64 (mul64 acc.a0 PRIME64_1) (mul64 acc.a1 PRIME64_4)) (mul64 (sub64 inputLength seed) PRIME64_2) in
     record { low = avalanche low; high = sub64 0 (avalanche high) }

@@ -42,31 +42,31 @@ for_down zero body acc = acc
 for_down (suc i) body acc = for_down i body (body i acc)
 
 abbrev pub PRIME32_1 : ℕ
-PRIME32-1 = 0x9e3779b1
+PRIME32_1 = 0x9e3779b1
 
 abbrev pub PRIME32_2 : ℕ
-PRIME32-2 = 0x85ebca77
+PRIME32_2 = 0x85ebca77
 
 abbrev pub PRIME32_3 : ℕ
-PRIME32-3 = 0xc2b2ae3d
+PRIME32_3 = 0xc2b2ae3d
 
 abbrev pub PRIME64_1 : ℕ
-PRIME64-1 = 0x9e3779b185ebca87
+PRIME64_1 = 0x9e3779b185ebca87
 
 abbrev pub PRIME64_2 : ℕ
-PRIME64-2 = 0xc2b2ae3d27d4eb4f
+PRIME64_2 = 0xc2b2ae3d27d4eb4f
 
 abbrev pub PRIME64_3 : ℕ
-PRIME64-3 = 0x165667b19e3779f9
+PRIME64_3 = 0x165667b19e3779f9
 
 abbrev pub PRIME64_4 : ℕ
-PRIME64-4 = 0x85ebca77c2b2ae63
+PRIME64_4 = 0x85ebca77c2b2ae63
 
 abbrev pub PRIME64_5 : ℕ
-PRIME64-5 = 0x27d4eb2f165667c5
+PRIME64_5 = 0x27d4eb2f165667c5
 
 abbrev pub PRIME_MX1 : ℕ
-PRIME-MX1 = 0x165667919e3779f9
+PRIME_MX1 = 0x165667919e3779f9
 
 abbrev pub PRIME_MX2 : ℕ
-PRIME-MX2 = 0x9fb21c651e98df25
+PRIME_MX2 = 0x9fb21c651e98df25

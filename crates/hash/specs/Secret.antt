@@ -34,7 +34,7 @@ avalanche x =
 
 -- avalanche_XXH64()
 unfoldable pub avalanche_XXH64 : ℕ → ℕ
-avalanche-XXH64 x =
+avalanche_XXH64 x =
     let x₁ = bit_xor x (x / 2 ^ 33) in
     let x₂ = mul64 x₁ PRIME64_2 in
     let x₃ = bit_xor x₂ (x₂ / 2 ^ 29) in

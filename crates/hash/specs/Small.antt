@@ -7,7 +7,7 @@ use Rattle.hash.specs.declared.Hash128.{Hash128}
 
 -- "Empty input"
 unfoldable pub XXH3_128_empty : Hash128
-XXH3-128-empty =
+XXH3_128_empty =
     let secretWords = u64s secret 64 in
     record {
       low = avalanche_XXH64 (bit_xor (bit_xor seed (secretWords 0)) (secretWords 1));
@@ -21,7 +21,7 @@ combined input =
     bit_or (bit_or (bit_or (slice_index input (inputLength - 1)) (shl32 inputLength 8)) (shl32 (slice_index input 0) 16)) (shl32 (slice_index input (inputLength / 2 ^ 1)) 24)
 
 unfoldable pub XXH3_128_1to3 : List ℕ → Hash128
-XXH3-128-1to3 input =
+XXH3_128_1to3 input =
     let secretWords = u32s secret 0 in
     let low = bit_xor (add64 (bit_xor (secretWords 0) (secretWords 1)) seed) (combined input) in
     let high = bit_xor (sub64 (bit_xor (secretWords 2) (secretWords 3)) seed) (rotl32 (bswap 4 (combined input)) 13) in
@@ -32,7 +32,7 @@ unfoldable pub modified_seed : ℕ
 modified_seed = bit_xor seed (shl64 (bswap 4 (seed % 2 ^ 32)) 32)
 
 unfoldable pub XXH3_128_4to8 : List ℕ → Hash128
-XXH3-128-4to8 input =
+XXH3_128_4to8 input =
     let inputLength = length input in
     let inputFirst = u32s input 0 0 in
     let inputLast = u32s input (inputLength - 4) 0 in
@@ -51,7 +51,7 @@ XXH3-128-4to8 input =
 
 -- "9-16 bytes of input"
 unfoldable pub XXH3_128_9to16 : List ℕ → Hash128
-XXH3-128-9to16 input =
+XXH3_128_9to16 input =
     let inputLength = length input in
     let inputFirst = u64s input 0 0 in
     let inputLast = u64s input (inputLength - 8) 0 in

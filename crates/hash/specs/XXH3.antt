@@ -8,14 +8,14 @@ use Rattle.hash.specs.declared.Hash128.{Hash128}
 
 -- 17-128 and 129-240 bytes: steps 1, 2 and 3 of the medium inputs
 unfoldable pub XXH3_128_17to128 : List ℕ → Hash128
-XXH3-128-17to128 input = XXH3_128_17to240 (length input) (process_input_17to128 input (acc_medium (length input)))
+XXH3_128_17to128 input = XXH3_128_17to240 (length input) (process_input_17to128 input (acc_medium (length input)))
 
 unfoldable pub XXH3_128_129to240 : List ℕ → Hash128
-XXH3-128-129to240 input = XXH3_128_17to240 (length input) (process_input_129to240 input (acc_medium (length input)))
+XXH3_128_129to240 input = XXH3_128_17to240 (length input) (process_input_129to240 input (acc_medium (length input)))
 
 -- "XXH3 uses different algorithms for small (0-16 bytes), medium (17-240 bytes), and large (241+ bytes) inputs"
 unfoldable pub xxh3_128 : List ℕ → Hash128
-xxh3-128 input =
+xxh3_128 input =
     let inputLength = length input in
     pick (nat_le inputLength 0) XXH3_128_empty
     (pick (nat_le inputLength 3) (XXH3_128_1to3 input)

@@ -25,7 +25,7 @@ pub data Front (image : List ℕ) (i : ℕ) (ps : List Part) (ls : List (List Me
       → ReadsAll image i (set ps j (moved k (get_or ps j no_part))) (set ls j l) → Front image i ps ls (some x k)
 
 leq_refl : (image : List ℕ) (x : MergeEntry) → Leq image x x
-leq-refl image x = by_part refl refl (omega arith)
+leq_refl image x = by_part refl refl (omega arith)
 
 no_front : (y : MergeEntry) (r : List MergeEntry) → ◌≡◌ {A = List MergeEntry} [] (y ∷ r) → ⊥
 no_front y r e = let c : ◌≡◌ {A = ℕ} 0 1 = cc in omega arith

@@ -23,10 +23,10 @@ pub data Merges (image : List ℕ) : List (List MergeEntry) → List MergeEntry 
 
 lists_set : (Q : List MergeEntry → Type 0) (ls : List (List MergeEntry)) (k : ℕ) (l : List MergeEntry) → Q l → ((j : ℕ) → Q (get_or ls j [])) → (j : ℕ) → Q (get_or (set ls k l) j [])
 lists_set Q [] k l a u j = u j
-lists-set Q (h ∷ ls) zero l a u zero = a
-lists-set Q (h ∷ ls) zero l a u (suc j) = u (suc j)
+lists_set Q (h ∷ ls) zero l a u zero = a
+lists_set Q (h ∷ ls) zero l a u (suc j) = u (suc j)
 lists_set Q (h ∷ ls) (suc k) l a u zero = u zero
-lists-set Q (h ∷ ls) (suc k) l a u (suc j) = lists_set Q ls k l a (λ i. u (suc i)) j
+lists_set Q (h ∷ ls) (suc k) l a u (suc j) = lists_set Q ls k l a (λ i. u (suc i)) j
 
 merged-all : (P : MergeEntry → Type 0) {image : List ℕ} {ls : List (List MergeEntry)} {out : List MergeEntry} → Merges image ls out → ((j : ℕ) → All P (get_or ls j [])) → All P out
 merged-all P (done e) u = tt
@@ -45,8 +45,8 @@ front image x (y ∷ r) s f = (f y r refl, all_map image x y r (f y r refl) s.0)
 
 pub merged_sorted : {image : List ℕ} {ls : List (List MergeEntry)} {out : List MergeEntry} → Merges image ls out → ((j : ℕ) → Sorted image (get_or ls j [])) → Sorted image out
 unfolding Sorted
-merged-sorted (done e) s = tt
-merged-sorted {image} {ls} (next {x = x} {l = l} k g least r) s =
+merged_sorted (done e) s = tt
+merged_sorted {image} {ls} (next {x = x} {l = l} k g least r) s =
     let t = subst (Sorted image) g (s k) in (
       merged-all (Leq image x) r (lists_set (All (Leq image x)) ls k l t.0 (λ j. front image x (get_or ls j []) (s j) (least j))),
       merged_sorted r (lists_set (Sorted image) ls k l t.1 s),
@@ -58,12 +58,12 @@ here_of j x l e = rw (eq-eqb _ _ e)
 
 other_of : (j : ℕ) (x : MergeEntry) (l : List MergeEntry) → (x.part ≡ j → ⊥) → from_part j (x ∷ l) ≡ from_part j l
 unfolding from_part pick
-other-of j x l e = rw (ne_eqb _ _ e)
+other_of j x l e = rw (ne_eqb _ _ e)
 
 in_lists : (ls : List (List MergeEntry)) (k : ℕ) (x : MergeEntry) (l : List MergeEntry) → get_or ls k [] ≡ x ∷ l → k < length ls
-in-lists [] k x l e = let c : ◌≡◌ {A = ℕ} 0 1 = cc in absurd (omega arith)
+in_lists [] k x l e = let c : ◌≡◌ {A = ℕ} 0 1 = cc in absurd (omega arith)
 in_lists (h ∷ ls) zero x l e = omega arith
-in-lists (h ∷ ls) (suc k) x l e = let q = in_lists ls k x l e in omega arith
+in_lists (h ∷ ls) (suc k) x l e = let q = in_lists ls k x l e in omega arith
 
 exact-at : (j k : ℕ) (ls : List (List MergeEntry)) (x : MergeEntry) (l out : List MergeEntry) → get_or ls k [] ≡ x ∷ l → x.part ≡ k → from_part j out ≡ get_or (set ls k l) j [] → (b : Bool) → eqb k j ≡ b → from_part j (x ∷ out) ≡ get_or ls j []
 exact-at j k ls x l out g n h true q =

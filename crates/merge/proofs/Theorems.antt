@@ -97,36 +97,36 @@ gives_one (one e r) (over f) = let c : ◌≡◌ {A = ℕ} 0 1 = cc in absurd (o
 gives_one (one {x = x} e r) (one {x = y} f s) = let q : x ≡ y = cc in ap₂ (λ (z : MergeEntry) (l : List MergeEntry). z ∷ l) q (gives_one r s)
 
 reads_numbered : {image : List ℕ} {i : ℕ} {p : Part} {l : List MergeEntry} → Reads image i p l → Numbered i l
-reads-numbered (ended q) = tt
-reads-numbered (found q r) = (refl, reads_numbered r)
+reads_numbered (ended q) = tt
+reads_numbered (found q r) = (refl, reads_numbered r)
 
 all_numbered : {image : List ℕ} {i : ℕ} {ps : List Part} {ls : List (List MergeEntry)} → ReadsAll image i ps ls → (j : ℕ) → Numbered (i + j) (get_or ls j [])
 all_numbered empty j = tt
-all-numbered {image} {i} (part q h) zero = rw add-zero (reads_numbered q)
+all_numbered {image} {i} (part q h) zero = rw add-zero (reads_numbered q)
 all_numbered {image} {i} (part {ls = ls} q h) (suc j) =
     let e : suc i + j ≡ i + suc j = omega arith in
     subst (λ (k : ℕ). Numbered k (get_or ls j [])) e (all_numbered h j)
 
 pub merge_ends_lem : MergeEnds
-merge-ends image count parts ls s = let w = whole image count parts ls s in (w.out, w.runs)
+merge_ends_lem image count parts ls s = let w = whole image count parts ls s in (w.out, w.runs)
 
 pub merge_exact_lem : MergeExact
-merge-exact image count parts ls s out g j =
+merge_exact_lem image count parts ls s out g j =
     let w = whole image count parts ls s in
     ap (from_part j) (gives_one g w.runs) ∙ exact w.merges (λ i. subst (λ (k : ℕ). Numbered k (get_or ls i [])) (zero-add i) (all_numbered s.reads i)) j
 
 pub merge_sorted_lem : MergeSorted
-merge-sorted image count parts ls s sorted out g =
+merge_sorted_lem image count parts ls s sorted out g =
     let w = whole image count parts ls s in
     subst (Sorted image) (sym (gives_one g w.runs)) (merged_sorted w.merges sorted)
 
 -- every entry takes four bytes at least of those left
-given-by-answer : (image : List ℕ) (m : MergeScanner) (k : ℕ) (a : MergeAnswer) → (next_of m image).answer ≡ a → 4 * length (given k image (next_of m image).state) ≤ left (next_of m image).state
+given-by_answer : (image : List ℕ) (m : MergeScanner) (k : ℕ) (a : MergeAnswer) → (next_of m image).answer ≡ a → 4 * length (given k image (next_of m image).state) ≤ left (next_of m image).state
     → 4 * length (listed a (given k image (next_of m image).state)) ≤ left m
 unfolding listed
-given-by-answer image m k (answer.Entry x) e h = let f = falls m image x e in omega arith
-given-by-answer image m k answer.End e h = omega arith
-given-by-answer image m k (answer.Refused w) e h = omega arith
+given-by_answer image m k (answer.Entry x) e h = let f = falls m image x e in omega arith
+given-by_answer image m k answer.End e h = omega arith
+given-by_answer image m k (answer.Refused w) e h = omega arith
 
 by_left : (k : ℕ) (image : List ℕ) (m : MergeScanner) → 4 * length (given k image m) ≤ left m
 unfolding given
@@ -146,19 +146,19 @@ left_in_lem size (suc n) (p ∷ ps) h =
     omega arith
 
 by_image : (image : List ℕ) (m : MergeScanner) (k : ℕ) (c : Bool) → table_ok (length image) m ≡ c → length (given k image m) ≤ 4 * length image
-by-image image m k true h =
+by_image image m k true h =
     let b = ok-both (length image) m h in
     let l = left_in_lem (length image) m.count m.parts b.1 in
     let g = by_left k image m in
     let s : m.count * length image ≤ 16 * length image = mul-le-mul_right (length image) b.0 in
     omega arith
-by-image image m k false h =
+by_image image m k false h =
     let e = next_bad m image h in
     let n = given-none image m _ e (λ x d. let o : ◌≡◌ {A = ℕ} 0 1 = cc in omega arith) k in
     rw n (omega arith)
 
 pub merge_bounded_lem : MergeBounded
-merge-bounded image m k = (by_left k image m, by_image image m k _ refl)
+merge_bounded_lem image m k = (by_left k image m, by_image image m k _ refl)
 
 -- A sound table stays one, so 13 is given of the state that came in or never.
 
@@ -169,7 +169,7 @@ answer_ok m (some x k) h = let o : ◌≡◌ {A = ℕ} 0 1 = cc in omega arith
 answer_ok m (refused i w) h = let o : ◌≡◌ {A = ℕ} 0 1 = cc in omega arith
 
 next_sound : (image : List ℕ) (m : MergeScanner) (x : MergeEntry) → table_ok (length image) m ≡ true → (next_of m image).answer ≡ answer.Entry x → table_ok (length image) (next_of m image).state ≡ true
-next-sound image m x t h = let g = given_by m image x h in ap (table_ok (length image)) g.state ∙ taken-ok m image x g.k g.front t
+next_sound image m x t h = let g = given_by m image x h in ap (table_ok (length image)) g.state ∙ taken-ok m image x g.k g.front t
 
 module _ (image key : List ℕ) (handle : ValueHandle) where
   not_judged : (m : MergeScanner) (rest : Drained) (v : Verdict) → (rest.outcome ≡ outcome.Refused refusal.BadPart → ⊥) → (judged_by m rest v).outcome ≡ outcome.Refused refusal.BadPart → ⊥
@@ -200,11 +200,11 @@ module _ (image key : List ℕ) (handle : ValueHandle) where
   bad_by m false t h = (t, ap (λ (d : Drained). d.state) (drain_bad image key handle m t))
 
 pub drain_same_lem : DrainSame
-drain-same image key handle m h = bad_by image key handle m _ refl h
+drain_same_lem image key handle m h = bad_by image key handle m _ refl h
 
 pub drain_enough_lem : DrainEnough
 unfolding drain_of
-drain-enough image key handle m k h = enough image key handle k (suc (left m)) m h (omega arith)
+drain_enough_lem image key handle m k h = enough image key handle k (suc (left m)) m h (omega arith)
 
 pub theorems : Theorems
 theorems = record {

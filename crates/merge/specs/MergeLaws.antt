@@ -106,7 +106,7 @@ shown_of i p (scanned.Refused w n) x k h = let o : ◌≡◌ {A = ℕ} 0 1 = cc 
 
 pub foremost_of : (image : List ℕ) (i : ℕ) (ps : List Part) (x : MergeEntry) (k : ℕ) → foremost image i ps ≡ some x k → From image i ps x k
 unfolding foremost
-foremost-of image i [] x k h = let o : ◌≡◌ {A = ℕ} 0 1 = cc in absurd (omega arith)
+foremost_of image i [] x k h = let o : ◌≡◌ {A = ℕ} 0 1 = cc in absurd (omega arith)
 foremost_of image i (p ∷ ps) x k h = ⊎_elim
     (λ (g : shown i p (scan_at image p) ≡ some x k).
     let v = shown_of i p (scan_at image p) x k g in
@@ -202,7 +202,7 @@ given-ok m image x t (some y k) e q h =
 given-ok m image x t (refused i w) e q h = let o : ◌≡◌ {A = ℕ} 0 1 = cc in absurd (omega arith)
 
 given_if : (m : MergeScanner) (image : List ℕ) (b : Bool) → table_ok (length image) m ≡ b → (x : MergeEntry) → (next_of m image).answer ≡ answer.Entry x → Given m image x
-given-if m image true t x h = let e = next-ok m image t in given-ok m image x t _ refl e (sym (ap (λ (r : Merged). r.answer) e) ∙ h)
+given_if m image true t x h = let e = next-ok m image t in given-ok m image x t _ refl e (sym (ap (λ (r : Merged). r.answer) e) ∙ h)
 given_if m image false t x h =
     let e = ap (λ (r : Merged). r.answer) (next_bad m image t) in
     let o : ◌≡◌ {A = ℕ} 0 1 = cc in

@@ -66,6 +66,6 @@ module _ where
 
 pub alike_on : (a b : List ℕ) (i : ℕ) → order_of (drop i a) (drop i b) ≡ order_of a b → ((k : ℕ) → get_or a k 0 < 256) → ((k : ℕ) → get_or b k 0 < 256) → 8 ≤ length a - i → 8 ≤ length b - i
     → num 8 (drop i a) ≡ num 8 (drop i b) → order_of (drop (i + 8) a) (drop (i + 8) b) ≡ order_of a b
-alike-on a b i whole f g p q e =
+alike_on a b i whole f g p q e =
     let r = same-num 8 (drop i a) (drop i b) (λ k. rw get_or-drop (f (i + k))) (λ k. rw get_or-drop (g (i + k))) (omega (arith, length-drop i a)) (omega (arith, length-drop i b)) e in
     rw (← drop-drop 8 i a, ← drop-drop 8 i b) (r ∙ whole)

@@ -103,13 +103,13 @@ reset_in (suc n) (p ∷ ps) = moved 0 p ∷ reset_in n ps
 
 pub reset_on : (ps : List Part) (i : ℕ) → i < length ps → set (reset_in i ps) i (moved 0 (get_or (reset_in i ps) i no_part)) ≡ reset_in (suc i) ps
 unfolding reset_in
-reset-on [] i h = absurd (omega arith)
+reset_on [] i h = absurd (omega arith)
 reset_on (p ∷ ps) zero h = refl
-reset-on (p ∷ ps) (suc i) h = ap (λ (r : List Part). moved 0 p ∷ r) (reset_on ps i (omega arith))
+reset_on (p ∷ ps) (suc i) h = ap (λ (r : List Part). moved 0 p ∷ r) (reset_on ps i (omega arith))
 
 pub reset_all : (n : ℕ) (ps : List Part) → length ps ≡ n → reset_in n ps ≡ map (moved 0) ps
 unfolding reset_in
-reset-all zero [] h = refl
-reset-all zero (p ∷ ps) h = absurd (omega arith)
+reset_all zero [] h = refl
+reset_all zero (p ∷ ps) h = absurd (omega arith)
 reset_all (suc n) [] h = refl
-reset-all (suc n) (p ∷ ps) h = ap (λ (r : List Part). moved 0 p ∷ r) (reset_all n ps (omega arith))
+reset_all (suc n) (p ∷ ps) h = ap (λ (r : List Part). moved 0 p ∷ r) (reset_all n ps (omega arith))

@@ -208,7 +208,7 @@ told fault.Clear b = pick b.live (some b.entry b.next) none
 
 told_live : (x : Kept) → x.live ≡ true → told fault.Clear x ≡ some x.entry x.next
 unfolding told pick
-told-live x h = rw h
+told_live x h = rw h
 
 told-dead : (x : Kept) → x.live ≡ false → told fault.Clear x ≡ none
 unfolding told pick
@@ -318,9 +318,9 @@ settle_other m fault.Clear b false l nay = rw l
 
 settle_answer : (m : MergeScanner) (f : Fault) (b : Kept) (c : Bool) → b.live ≡ c → (settle m (told f b)).answer ≡ answer_of f b
 unfolding answer_of told settle pick
-settle-answer m (fault.At i w) b c l = refl
-settle-answer m fault.Clear b true l = rw l
-settle-answer m fault.Clear b false l = rw l
+settle_answer m (fault.At i w) b c l = refl
+settle_answer m fault.Clear b true l = rw l
+settle_answer m fault.Clear b false l = rw l
 
 both-clear : (a b : Fault) → lower a b ≡ fault.Clear → (a ≡ fault.Clear) × (b ≡ fault.Clear)
 unfolding lower
@@ -333,10 +333,10 @@ lower-none fault.Clear = refl
 lower-none (fault.At i w) = refl
 
 -- where no part refused, the part scanned anew alone can
-fault-set : (image : List ℕ) (n : ℕ) (ps : List Part) (i k : ℕ) (p : Part) → k < n → k < length ps → fault_from image i (take n ps) ≡ fault.Clear
+fault_set : (image : List ℕ) (n : ℕ) (ps : List Part) (i k : ℕ) (p : Part) → k < n → k < length ps → fault_from image i (take n ps) ≡ fault.Clear
     → fault_from image i (take n (set ps k p)) ≡ (head_of image (i + k) p).fault
 unfolding fault_from
-fault-set image zero ps i k p h l c = absurd (omega arith)
+fault_set image zero ps i k p h l c = absurd (omega arith)
 fault_set image (suc n) [] i k p h l c = absurd (omega arith)
 fault_set image (suc n) (q ∷ ps) i zero p h l c =
     let z : i + 0 ≡ i = omega arith in

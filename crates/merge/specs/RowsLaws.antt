@@ -87,7 +87,7 @@ pub record Writing (image : List ℕ) (m₀ : MergeScanner) (b₀ : List ℕ) (m
 
 pub writing_starts : (image : List ℕ) (m : MergeScanner) (b : List ℕ) → Writing image m b m b 0 0
 unfolding rowed_in
-writing-starts image m b =
+writing_starts image m b =
     let z : left_rows b 0 ≡ whole_rows b = omega arith in
     record { size = refl; room = omega arith; nine = omega arith; state = rw z; count = rw z (omega arith); numbers = rw z }
 

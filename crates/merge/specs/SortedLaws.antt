@@ -15,12 +15,12 @@ use Rattle.merge.specs.Merge.{ranked, ahead}
 use Rattle.merge.specs.Sorted.{Below, short, here, later, Leq, by_key, by-seqno, by_part}
 
 pub below_trans : {a b c : List ℕ} → Below a b → Below b c → Below a c
-below-trans short (here h) = short
-below-trans short (later r) = short
-below-trans (here {x} {y} h) (here {y = z} g) = let l : x < z = omega arith in here l
-below-trans (here h) (later r) = here h
-below-trans (later r) (here g) = here g
-below-trans (later r) (later s) = later (below_trans r s)
+below_trans short (here h) = short
+below_trans short (later r) = short
+below_trans (here {x} {y} h) (here {y = z} g) = let l : x < z = omega arith in here l
+below_trans (here h) (later r) = here h
+below_trans (later r) (here g) = here g
+below_trans (later r) (later s) = later (below_trans r s)
 
 -- what the comparison says is so
 pub data Compared (a b : List ℕ) : Order → Type 0 where
@@ -53,7 +53,7 @@ view (x ∷ a) [] = more short
 view (x ∷ a) (y ∷ b) = step-view x y a b (order_of a b) (view a b) _ _ refl refl
 
 pub leq_trans : {image : List ℕ} {x y z : MergeEntry} → Leq image x y → Leq image y z → Leq image x z
-leq-trans (by_key r) (by_key s) = by_key (below_trans r s)
+leq_trans (by_key r) (by_key s) = by_key (below_trans r s)
 leq_trans {image} {x} (by_key r) (by-seqno e l) = by_key (subst (Below (part_at image x.key)) e r)
 leq_trans {image} {x} (by_key r) (by_part e f l) = by_key (subst (Below (part_at image x.key)) e r)
 leq_trans {image} {x} {y} {z} (by-seqno e l) (by_key s) = by_key (subst (λ (k : List ℕ). Below k (part_at image z.key)) (sym e) s)
@@ -102,10 +102,10 @@ module _ (image : List ℕ) (x y : MergeEntry) where
   behind_leq h = behind-by _ (view (part_at image y.key) (part_at image x.key)) h
 
 below_irreflexive : {a b : List ℕ} → Below a b → Below b a → ⊥
-below-irreflexive (here h) (here g) = omega arith
-below-irreflexive (here h) (later s) = omega arith
-below-irreflexive (later r) (here g) = omega arith
-below-irreflexive (later r) (later s) = below_irreflexive r s
+below_irreflexive (here h) (here g) = omega arith
+below_irreflexive (here h) (later s) = omega arith
+below_irreflexive (later r) (here g) = omega arith
+below_irreflexive (later r) (later s) = below_irreflexive r s
 
 below-same : {a b : List ℕ} → a ≡ b → Below a b → ⊥
 below-same {a} {b} e r = below_irreflexive r (subst (λ (k : List ℕ). Below k a) e (subst (Below a) (sym e) r))

@@ -56,7 +56,7 @@ pub record Building (image : List ℕ) (t₀ t : List Kept) (j : ℕ) : Type 0 w
   pub same : (k : ℕ) → 16 ≤ k → node_at t k ≡ node_at t₀ k
 
 pub building_starts : (image : List ℕ) (t : List Kept) → length t ≡ 32 → Building image t t 16
-building-starts image t h = record { size = h; low = omega arith; high = omega arith; won = λ i l g. absurd (omega arith); same = λ k g. refl }
+building_starts image t h = record { size = h; low = omega arith; high = omega arith; won = λ i l g. absurd (omega arith); same = λ k g. refl }
 
 pub building_on : (image : List ℕ) (t₀ t : List Kept) (j : ℕ) → Building image t₀ t j → 1 < j → (z : Kept) → z ≡ winner image (node_at t (2 * (j - 1))) (node_at t (2 * (j - 1) + 1)) → Building image t₀ (set t (j - 1) z) (j - 1)
 building_on image t₀ t j b h z e =
@@ -78,7 +78,7 @@ pub record Climbing (image : List ℕ) (t₀ t : List Kept) (j : ℕ) : Type 0 w
   pub same : (k : ℕ) → 16 ≤ k → node_at t k ≡ node_at t₀ k
 
 pub climbing_starts : (image : List ℕ) (t : List Kept) (j : ℕ) → length t ≡ 32 → j < 16 → ((i : ℕ) → 0 < i → i < 16 → (i ≡ j → ⊥) → Won image t i) → Climbing image t t j
-climbing-starts image t j h g w = record { size = h; high = g; won = w; same = λ k d. refl }
+climbing_starts image t j h g w = record { size = h; high = g; won = w; same = λ k d. refl }
 
 pub climbing_on : (image : List ℕ) (t₀ t : List Kept) (j : ℕ) → Climbing image t₀ t j → 0 < j → (z : Kept) → z ≡ winner image (node_at t (2 * j)) (node_at t (2 * j + 1)) → Climbing image t₀ (set t j z) (j / 2)
 climbing_on image t₀ t j b h z e =
@@ -103,7 +103,7 @@ pub record Filling (image : List ℕ) (n : ℕ) (ps : List Part) (t : List Kept)
 
 pub filling_starts : (image : List ℕ) (n : ℕ) (ps : List Part) (x : Kept) → x ≡ nothing → n ≤ 16 → length ps ≡ 16 → Filling image n ps (replicate 32 x) fault.Clear n
 unfolding fault_from
-filling-starts image n ps x e g l =
+filling_starts image n ps x e g l =
     let m : n ≤ length ps = omega arith in
     let q : length (take n ps) ≤ n = omega (arith, length-take-le n ps m) in
     record {

@@ -27,10 +27,10 @@ module _ (at : ℕ) (s t : List ℕ) (r : ReadU64) (p : t ≡ drop at s) (e : r 
   narrow-refused why f = ap as_u32 (sym (refused_u64 (read_in 5 (2 ^ 32) at t) why (sym f ∙ e)) ∙ ap (read_in 5 (2 ^ 32) at) p)
 
 pub within_u64 : (at : ℕ) (s : List ℕ) (r : ReadU64) (v n : ℕ) → r ≡ as_u64 (read_of 64 at s) → r ≡ u64.Number v n → at + n ≤ length s
-within-u64 at s r v n e f = within 64 at s v n (number_u64 (read_of 64 at s) v n (sym f ∙ e))
+within_u64 at s r v n e f = within 64 at s v n (number_u64 (read_of 64 at s) v n (sym f ∙ e))
 
 pub within_u32 : (at : ℕ) (s : List ℕ) (r : ReadU32) (v n : ℕ) → r ≡ as_u32 (read_of 32 at s) → r ≡ u32.Number v n → at + n ≤ length s
-within-u32 at s r v n e f = within 32 at s v n (number_u32 (read_of 32 at s) v n (sym f ∙ e))
+within_u32 at s r v n e f = within 32 at s v n (number_u32 (read_of 32 at s) v n (sym f ∙ e))
 
 -- ---- a handle
 module _ (at : ℕ) (s : List ℕ) (r₁ : ReadU64) (e₁ : r₁ ≡ as_u64 (read_of 64 at s)) where

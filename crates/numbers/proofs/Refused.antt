@@ -37,8 +37,8 @@ carried-carry (suc most) (b ∷ bs) k h = go (leb 128 b) refl k h (carried-carry
     go true e (suc k) h ih = ih k (omega (arith, carried_on most b bs (leb-true 128 b e)))
 
 carried_least : (most k : ℕ) (t : List ℕ) → k ≤ most → CarryOn k t → k ≤ carried most t
-carried-least most zero t m c = omega arith
-carried-least zero (suc k) t m c = absurd (omega arith)
+carried_least most zero t m c = omega arith
+carried_least zero (suc k) t m c = absurd (omega arith)
 carried_least (suc most) (suc k) [] m c = absurd (omega (arith, c 0 (omega arith)))
 carried_least (suc most) (suc k) (b ∷ bs) m c =
     let e = carried_on most b bs (c 0 (omega arith)) in
@@ -129,13 +129,13 @@ module _ (most limit at : ℕ) (t : List ℕ) where
       go true false c p q r e = let z : ◌≡◌ {A = ℕ} 0 1 = cc in absurd (omega arith)
 
 pub cut_exactly_lem : CutExactly
-cut-exactly w at s cut = (
+cut_exactly_lem w at s cut = (
   cut-only (groups w) (2 ^ w) at (drop at s) cut,
   λ h. cut_if (groups w) (2 ^ w) at (drop at s) h.1 h.2 ∙ ap (λ c. refused (refusal.CutShort c)) (sym h.0),
 )
 
 pub too_long_exactly_lem : TooLongExactly
-too-long-exactly w at s b = (
+too_long_exactly_lem w at s b = (
   too_long-only (groups w) (2 ^ w) at (drop at s) (λ k. rw (get_or-drop at s k 0) (b (at + k))),
   ⊎_elim (endless (groups w) (2 ^ w) at (drop at s)) (λ o. over_if (groups w) (2 ^ w) at (drop at s) o.0 o.1 o.2 o.3 o.4 o.5),
 )

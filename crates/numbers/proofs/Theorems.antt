@@ -21,13 +21,13 @@ written-reads w at x n buf p h e =
     ∙ ap (number x) (sym (wrote_used (shortest x) buf at n e).0)
 
 padded_reads_lem : PaddedReads
-padded-reads w at x zero s rest h l m e = absurd (omega (arith, length_some x))
+padded_reads_lem w at x zero s rest h l m e = absurd (omega (arith, length_some x))
 padded_reads_lem w at x (suc n) s rest h l m e =
     ap (read_in (groups w) (2 ^ w) at) e
     ∙ reads-groups (groups w) (2 ^ w) at n x rest (omega arith) (lt_of_lt_of_le (shortest-holds x) (pow-le-pow_right {n = 128} (lit< tt) {i = length (shortest x)} {j = suc n} l)) h
 
 only_spellings_lem : OnlySpellings
-only-spellings w at x n s b e =
+only_spellings_lem w at x n s b e =
     let f = found (groups w) (2 ^ w) at (drop at s) x n e in (
       found-groups (groups w) (2 ^ w) (drop at s) x n (λ k. rw (get_or-drop at s k 0) (b (at + k))) f,
       none_shorter w at x n s e,
@@ -36,7 +36,7 @@ only-spellings w at x n s b e =
     )
 
 read_writes_lem : ReadWrites
-read-writes w at x zero s b e u = absurd (omega (arith, (found (groups w) (2 ^ w) at (drop at s) x 0 e).last))
+read_writes_lem w at x zero s b e u = absurd (omega (arith, (found (groups w) (2 ^ w) at (drop at s) x 0 e).last))
 read_writes_lem w at x (suc n) s b e u =
     let f = found (groups w) (2 ^ w) at (drop at s) x (suc n) e in
     let g = (only_spellings_lem w at x (suc n) s b e).0 in
@@ -46,21 +46,21 @@ read_writes_lem w at x (suc n) s b e u =
     sym (g ∙ unpadded n x (found_below (groups w) (2 ^ w) (drop at s) x (suc n) f) (⊎_elim (λ z. inl (omega arith)) (λ z. inr (omega arith)) u))
 
 handle_decodes_lem : HandleDecodes
-handle-decodes h at n buf p q r e =
+handle_decodes_lem h at n buf p q r e =
     handle-back h at _ (drop (at + length (handle_bytes h)) buf) p q r (stands (handle_bytes h) buf at n e (handle-some h))
     ∙ ap (Handle h) (sym (wrote_used (handle_bytes h) buf at n e).0)
 
 indirection_decodes_lem : IndirectionDecodes
-indirection-decodes i at n buf p q r t e =
+indirection_decodes_lem i at n buf p q r t e =
     let l : 1 ≤ length (indirection_bytes i) = omega (arith, length_indirection i, handle-some i.handle) in
     indirection_back i at _ (drop (at + length (indirection_bytes i)) buf) p q r t (stands (indirection_bytes i) buf at n e l)
     ∙ ap (Indirection i) (sym (wrote_used (indirection_bytes i) buf at n e).0)
 
 handle_encodes_lem : HandleEncodes
-handle-encodes at n s h b e u = sym (handle-again at s h n b e u)
+handle_encodes_lem at n s h b e u = sym (handle-again at s h n b e u)
 
 indirection_encodes_lem : IndirectionEncodes
-indirection-encodes at n s i b e u = sym (indirection_again at s i n b e u)
+indirection_encodes_lem at n s i b e u = sym (indirection_again at s i n b e u)
 
 handle-reads : HandleReads
 unfolding handle_of onward
@@ -68,15 +68,15 @@ handle-reads at n s h = (handle-parts at s h n, λ r. rw (r.offset, r.file, r.si
 
 indirection_reads_lem : IndirectionReads
 unfolding indirection_of stated_after onward
-indirection-reads at n s i = (indirection_parts at s i n, λ r. rw (r.handle, r.stated) (ap (Indirection i) (sym r.all)))
+indirection_reads_lem at n s i = (indirection_parts at s i n, λ r. rw (r.handle, r.stated) (ap (Indirection i) (sym r.all)))
 
 handle_refuses_lem : HandleRefuses
 unfolding handle_of onward
-handle-refuses at offset n file m s why = (λ e. rw e, λ e f. rw (e, f), λ e f g. rw (e, f, g))
+handle_refuses_lem at offset n file m s why = (λ e. rw e, λ e f. rw (e, f), λ e f g. rw (e, f, g))
 
 indirection_refuses_lem : IndirectionRefuses
 unfolding indirection_of stated_after onward
-indirection-refuses at n s h why = (λ e. rw e, λ e f. rw (e, f))
+indirection_refuses_lem at n s h why = (λ e. rw e, λ e f. rw (e, f))
 
 pub theorems : Theorems
 theorems = record {

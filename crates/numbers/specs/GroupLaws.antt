@@ -32,7 +32,7 @@ carried-groups (suc most) (suc n) x rest m h =
 pub reads_spelling : (most limit at n x : ℕ) (rest : List ℕ) → n < most → x < 128 ^ suc n
     → read_in most limit at (in_groups (suc n) x ++ rest) ≡ pick (nat_lt x limit) (number x (suc n)) (refused TooLong)
 unfolding pick
-reads-spelling most limit at n x rest m h =
+reads_spelling most limit at n x rest m h =
     let e : value_of (take (n + 1) (in_groups (suc n) x ++ rest)) ≡ x = ap value_of (take_at (in_groups (suc n) x) rest (n + 1) (length-groups (suc n) x ∙ sym (add-one n))) ∙ value-groups n x h in
     let k : n < length (in_groups (suc n) x ++ rest) = omega (arith, length-append (in_groups (suc n) x) rest, length-groups (suc n) x) in
     read_at most limit at n (in_groups (suc n) x ++ rest) (carried-groups most n x rest m h) m
@@ -76,7 +76,7 @@ sevens (suc n) =
     pow-suc 128 n ∙ ap (λ (x : ℕ). x * 128) (sevens n) ∙ sym (pow-add 2 (7 * n) 7) ∙ ap (λ (x : ℕ). 2 ^ x) e
 
 pub in_width : (w x : ℕ) → 0 < w → x < 2 ^ w → length (shortest x) ≤ groups w
-in-width w x p h =
+in_width w x p h =
     let k = groups w - 1 in
     let e : suc k ≡ groups w = omega arith in
     let m : 2 ^ w ≤ 2 ^ (7 * suc k) = pow_mono {i = w} {j = 7 * suc k} (omega arith) in
@@ -129,10 +129,10 @@ found-groups most limit t value used b f =
     rw (f.is, e) (again most t b (omega (arith, f.allowed)) (omega (arith, f.present)))
 
 -- ---- a spelling whose last group is not zero, or that has one only, is the shortest
-zero-last : (n : ℕ) → slice_index (in_groups (suc n) 0) n ≡ 0
+zero_last : (n : ℕ) → slice_index (in_groups (suc n) 0) n ≡ 0
 unfolding in_groups
-zero-last zero = refl
-zero-last (suc n) = zero_last n
+zero_last zero = refl
+zero_last (suc n) = zero_last n
 
 pub unpadded : (n x : ℕ) → x < 128 ^ suc n → (n ≡ 0) ⊎ (0 < slice_index (in_groups (suc n) x) n) → in_groups (suc n) x ≡ shortest x
 unfolding in_groups

@@ -8,7 +8,7 @@ use Rattle.numbers.specs.LeLaws.{num-step, length-le, sets_then}
 
 num_join : (n m j : ℕ) (s : List ℕ) → num (n + m) (drop j s) ≡ num n (drop j s) + 256 ^ n * num m (drop (j + n) s)
 unfolding num
-num-join zero m j s = rw (zero-add m, add-zero j) (omega arith)
+num_join zero m j s = rw (zero-add m, add-zero j) (omega arith)
 num_join (suc n) m j s =
     let e : suc j + n ≡ j + suc n = omega arith in
     rw (suc-add n m, num-step (n + m) j s, num_join n m (suc j) s, num-step n j s, pow-suc 256 n, e) (omega arith)

@@ -18,7 +18,7 @@ length-handle h = simp length-append (omega arith)
 
 pub length_indirection : (i : BlobIndirection) → length (indirection_bytes i) ≡ length (handle_bytes i.handle) + length (shortest i.stated)
 unfolding indirection_bytes
-length-indirection i = length-append (handle_bytes i.handle) (shortest i.stated)
+length_indirection i = length-append (handle_bytes i.handle) (shortest i.stated)
 
 pub handle-some : (h : ValueHandle) → 1 ≤ length (handle_bytes h)
 handle-some h = omega (arith, length-handle h, length_some h.offset)
@@ -38,7 +38,7 @@ pub indirection_laid : (i : BlobIndirection) (b₀ b₁ b₂ : List ℕ) (at sta
     → b₂ ≡ sets b₁ stated-at (shortest i.stated)
     → b₂ ≡ sets b₀ at (indirection_bytes i)
 unfolding indirection_bytes
-indirection-laid i b₀ b₁ b₂ at stated-at p e q = q ∙ rw (p, e) (sets-append (handle_bytes i.handle) (shortest i.stated) b₀ at)
+indirection_laid i b₀ b₁ b₂ at stated-at p e q = q ∙ rw (p, e) (sets-append (handle_bytes i.handle) (shortest i.stated) b₀ at)
 
 -- a handle that was read: its three numbers, one after another
 pub record HandleRead (at : ℕ) (s : List ℕ) (h : ValueHandle) (used : ℕ) : Type 0 where
@@ -95,7 +95,7 @@ pub record IndirectionRead (at : ℕ) (s : List ℕ) (i : BlobIndirection) (used
 
 pub indirection_parts : (at : ℕ) (s : List ℕ) (i : BlobIndirection) (used : ℕ) → indirection_of at s ≡ indirection.Indirection i used → IndirectionRead at s i used
 unfolding indirection_of stated_after onward
-indirection-parts at s i used = first (handle_of at s) refl
+indirection_parts at s i used = first (handle_of at s) refl
   where
     second : (h : ValueHandle) (n : ℕ) → handle_of at s ≡ handle.Handle h n → (r : Reading) → read_of 32 (at + n) s ≡ r
         → onward indirection.Refused r (λ stated k. indirection.Indirection (record { handle = h; stated = stated }) (n + k)) ≡ indirection.Indirection i used → IndirectionRead at s i used
@@ -115,6 +115,6 @@ indirection-parts at s i used = first (handle_of at s) refl
     first (handle.Refused why) p e = let z : ◌≡◌ {A = ℕ} 0 1 = cc in absurd (omega arith)
 
 pub within_indirection : (at : ℕ) (s : List ℕ) (i : BlobIndirection) (used : ℕ) → indirection_of at s ≡ indirection.Indirection i used → at + used ≤ length s
-within-indirection at s i used e =
+within_indirection at s i used e =
     let r = indirection_parts at s i used e in
     omega (arith, r.all, within 32 (at + r.n) s i.stated r.k r.stated)

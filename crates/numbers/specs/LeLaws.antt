@@ -13,8 +13,8 @@ length-le (suc n) x = ap suc (length-le n (x / 256))
 
 num_nil : (n : ℕ) → num n [] ≡ 0
 unfolding num
-num-nil zero = refl
-num-nil (suc n) = refl
+num_nil zero = refl
+num_nil (suc n) = refl
 
 -- one byte more, at any place of a list: what a turn of the loop that reads does
 pub num-step : (n j : ℕ) (s : List ℕ) → num (suc n) (drop j s) ≡ slice_index s j + 256 * num n (drop (suc j) s)

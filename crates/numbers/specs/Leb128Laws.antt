@@ -16,7 +16,7 @@ spell_one (suc turns) x h = rw (lt-ltb x 128 h)
 
 spell_more : (turns x : ℕ) → 128 ≤ x → spell_in (suc turns) x ≡ (x % 128 + 128) ∷ spell_in turns (x / 128)
 unfolding spell_in pick
-spell-more turns x h = rw (le-ltb x 128 h)
+spell_more turns x h = rw (le-ltb x 128 h)
 
 -- more turns than x spell the same
 enough : (f g x : ℕ) → x ≤ f → x ≤ g → spell_in f x ≡ spell_in g x
@@ -80,8 +80,8 @@ carried-end (suc k) = refl
 
 pub carried_stop : (k b : ℕ) (bs : List ℕ) → b < 128 → carried k (b ∷ bs) ≡ 0
 unfolding carried pick
-carried-stop zero b bs h = refl
-carried-stop (suc k) b bs h = rw (lt-leb 128 b h)
+carried_stop zero b bs h = refl
+carried_stop (suc k) b bs h = rw (lt-leb 128 b h)
 
 pub carried_on : (k b : ℕ) (bs : List ℕ) → 128 ≤ b → carried (suc k) (b ∷ bs) ≡ suc (carried k bs)
 unfolding carried pick
@@ -134,20 +134,20 @@ within w at s value used e =
 -- the answers, read backwards
 pub number_u64 : (r : Reading) (value used : ℕ) → u64.Number value used ≡ as_u64 r → r ≡ number value used
 unfolding as_u64
-number-u64 (number v n) value used e = cc
-number-u64 (refused why) value used e = let z : ◌≡◌ {A = ℕ} 0 1 = cc in absurd (omega arith)
+number_u64 (number v n) value used e = cc
+number_u64 (refused why) value used e = let z : ◌≡◌ {A = ℕ} 0 1 = cc in absurd (omega arith)
 
 pub refused_u64 : (r : Reading) (why : NumberRefusal) → u64.Refused why ≡ as_u64 r → r ≡ refused why
 unfolding as_u64
-refused-u64 (number v n) why e = let z : ◌≡◌ {A = ℕ} 0 1 = cc in absurd (omega arith)
+refused_u64 (number v n) why e = let z : ◌≡◌ {A = ℕ} 0 1 = cc in absurd (omega arith)
 refused_u64 (refused y) why e = cc
 
 pub number_u32 : (r : Reading) (value used : ℕ) → u32.Number value used ≡ as_u32 r → r ≡ number value used
 unfolding as_u32
-number-u32 (number v n) value used e = cc
-number-u32 (refused why) value used e = let z : ◌≡◌ {A = ℕ} 0 1 = cc in absurd (omega arith)
+number_u32 (number v n) value used e = cc
+number_u32 (refused why) value used e = let z : ◌≡◌ {A = ℕ} 0 1 = cc in absurd (omega arith)
 
 pub refused_u32 : (r : Reading) (why : NumberRefusal) → u32.Refused why ≡ as_u32 r → r ≡ refused why
 unfolding as_u32
-refused-u32 (number v n) why e = let z : ◌≡◌ {A = ℕ} 0 1 = cc in absurd (omega arith)
+refused_u32 (number v n) why e = let z : ◌≡◌ {A = ℕ} 0 1 = cc in absurd (omega arith)
 refused_u32 (refused y) why e = cc

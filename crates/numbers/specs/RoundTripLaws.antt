@@ -43,7 +43,7 @@ reads-back w at x s rest p h e = go (length (shortest x)) refl
         ∙ ap (number x) (sym f)
 
 pub none_shorter : (w at value used : ℕ) (s : List ℕ) → read_of w at s ≡ number value used → length (shortest value) ≤ used
-none-shorter w at value used s e =
+none_shorter w at value used s e =
     let f = found (groups w) (2 ^ w) at (drop at s) value used e in
     let k = used - 1 in
     let u : suc k ≡ used = omega (arith, f.last) in
@@ -52,7 +52,7 @@ none-shorter w at value used s e =
 
 pub writes_back : (w at value used : ℕ) (s : List ℕ) → Octets s → read_of w at s ≡ number value used → used ≡ length (shortest value)
     → take used (drop at s) ≡ shortest value
-writes-back w at value used s b e u =
+writes_back w at value used s b e u =
     found-groups (groups w) (2 ^ w) (drop at s) value used (λ k. rw (get_or-drop at s k 0) (b (at + k))) (found (groups w) (2 ^ w) at (drop at s) value used e)
     ∙ ap (λ (n : ℕ). in_groups n value) u ∙ sym (shortest-groups value)
 
@@ -74,7 +74,7 @@ handle-back h at s rest p q r e =
 pub indirection_back : (i : BlobIndirection) (at : ℕ) (s rest : List ℕ) → i.handle.offset < 2 ^ 64 → i.handle.file < 2 ^ 64 → i.handle.size < 2 ^ 32 → i.stated < 2 ^ 32
     → drop at s ≡ indirection_bytes i ++ rest → indirection_of at s ≡ indirection.Indirection i (length (indirection_bytes i))
 unfolding indirection_bytes indirection_of stated_after onward
-indirection-back i at s rest p q r t e =
+indirection_back i at s rest p q r t e =
     let a = handle_bytes i.handle in
     let b = shortest i.stated in
     let e₁ : drop at s ≡ handle_bytes i.handle ++ (shortest i.stated ++ rest) = e ∙ simp append_assoc in
@@ -104,7 +104,7 @@ handle-again at s h used b e u =
     ∙ rw (drop-drop n at s, take-add m k (drop (at + n) s), drop-drop m (at + n) s, w₁, w₂, w₃)
 
 pub handle_least : (at : ℕ) (s : List ℕ) (h : ValueHandle) (used : ℕ) → handle_of at s ≡ handle.Handle h used → length (handle_bytes h) ≤ used
-handle-least at s h used e =
+handle_least at s h used e =
     let r = handle-parts at s h used e in
     let i₁ = none_shorter 64 at h.offset r.n s r.offset in
     let i₂ = none_shorter 64 (at + r.n) h.file r.m s r.file in
@@ -114,7 +114,7 @@ handle-least at s h used e =
 pub indirection_again : (at : ℕ) (s : List ℕ) (i : BlobIndirection) (used : ℕ) → Octets s → indirection_of at s ≡ indirection.Indirection i used
     → used ≡ length (indirection_bytes i) → take used (drop at s) ≡ indirection_bytes i
 unfolding indirection_bytes
-indirection-again at s i used b e u =
+indirection_again at s i used b e u =
     let r = indirection_parts at s i used e in
     let n = r.n in
     let k = r.k in

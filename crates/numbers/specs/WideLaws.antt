@@ -40,7 +40,7 @@ wrapped P M a₀ a₁ b₀ b₁ e =
 
 -- the product of two words modulo 2 ^ 64, from their halves
 pub mul_law : (a b : ℕ) → ((a % 2 ^ 32 * (b / 2 ^ 32) + a / 2 ^ 32 * (b % 2 ^ 32)) % 2 ^ 64 * 2 ^ 32 % 2 ^ 64 + a % 2 ^ 32 * (b % 2 ^ 32)) % 2 ^ 64 ≡ a * b % 2 ^ 64
-mul-law a b =
+mul_law a b =
     wrapped (2 ^ 32) (2 ^ 64) (a % 2 ^ 32) (a / 2 ^ 32) (b % 2 ^ 32) (b / 2 ^ 32) refl
     ∙ (λ i. split a 32 i * split b 32 i % 2 ^ 64)
 
@@ -123,7 +123,7 @@ low-lt n = mod-lt n (pow_pos 32)
 -- the bytes of a word of 32 bits, in reverse
 pub swap_word : (x : ℕ) → x < 2 ^ 32 → bswap 4 x ≡ x % 2 ^ 8 * 2 ^ 24 + x / 2 ^ 8 % 2 ^ 8 * 2 ^ 16 + x / 2 ^ 16 % 2 ^ 8 * 2 ^ 8 + x / 2 ^ 24
 unfolding bswap le num
-swap-word x h =
+swap_word x h =
     let e : x / 256 / 256 ≡ x / 2 ^ 16 = shr-shr x 8 8 in
     let f : x / 2 ^ 16 / 256 ≡ x / 2 ^ 24 = shr-shr x 16 8 in
     rw (e, f) (omega arith)
@@ -139,7 +139,7 @@ within x i k = rw field (mod-mod-pow (x / 2 ^ k) i 8)
 -- a word of 64 bits is reversed by reversing its halves and changing their places
 pub swap_halves : (x : ℕ) → bswap 8 x ≡ bswap 4 (x % 2 ^ 32) * 2 ^ 32 + bswap 4 (x / 2 ^ 32)
 unfolding bswap le
-swap-halves x =
+swap_halves x =
     let p : x / 256 / 256 / 256 / 256 ≡ x / 2 ^ 32 = ap (λ (n : ℕ). n / 256 / 256) (shr-shr x 8 8) ∙ ap (λ (n : ℕ). n / 256) (shr-shr x 16 8) ∙ shr-shr x 24 8 in
     let e₀ : x % 2 ^ 32 % 256 ≡ x % 256 = omega arith in
     let e₁ : x % 2 ^ 32 / 256 % 256 ≡ x / 256 % 256 = within x 16 8 in

@@ -10,7 +10,7 @@ use Rattle.numbers.specs.declared.leb128.Wrote.TheVariants.{Used, NoRoom}
 -- n bytes do not fit: no room, and the buffer as it was
 pub wrote_not : (bytes buf : List ℕ) (at n r : ℕ) → n ≡ length bytes → r ≡ length buf - at → r < n → (NoRoom ≡ wrote_of bytes at buf) × (buf ≡ placed bytes at buf)
 unfolding wrote_of placed fits pick
-wrote-not bytes buf at n r e f h =
+wrote_not bytes buf at n r e f h =
     let t : leb (length bytes) (length buf - at) ≡ false = lt-leb (length bytes) (length buf - at) (omega arith) in
     (rw t, rw t)
 
@@ -18,14 +18,14 @@ wrote-not bytes buf at n r e f h =
 pub wrote_all : (bytes buf after : List ℕ) (at n r : ℕ) → n ≡ length bytes → r ≡ length buf - at → n ≤ r → after ≡ sets buf at bytes
     → (Used n ≡ wrote_of bytes at buf) × (after ≡ placed bytes at buf)
 unfolding wrote_of placed fits pick
-wrote-all bytes buf after at n r e f h g =
+wrote_all bytes buf after at n r e f h g =
     let t : leb (length bytes) (length buf - at) ≡ true = le-leb (length bytes) (length buf - at) (omega arith) in
     (rw t (ap Used e), rw t g)
 
 -- what was answered says whether it fitted
 pub wrote_used : (bytes buf : List ℕ) (at n : ℕ) → wrote_of bytes at buf ≡ Used n → (n ≡ length bytes) × (length bytes ≤ length buf - at) × (placed bytes at buf ≡ sets buf at bytes)
 unfolding wrote_of placed fits pick
-wrote-used bytes buf at n = go (nat_le (length bytes) (length buf - at)) refl
+wrote_used bytes buf at n = go (nat_le (length bytes) (length buf - at)) refl
   where
     go : (b : Bool) → nat_le (length bytes) (length buf - at) ≡ b → pick b (Used (length bytes)) NoRoom ≡ Used n
         → (n ≡ length bytes) × (length bytes ≤ length buf - at) × (placed bytes at buf ≡ sets buf at bytes)
