@@ -4,14 +4,14 @@ use crate::{output, record};
 use libc::STDIN_FILENO;
 use numbers::bytes::{get_u64, part};
 
-#[derive(Drop)]
+#[derive(Clone, Copy)]
 struct Turn {
     run: Run,
     more: bool,
 }
 
 // What the next batch's length says.
-#[derive(Drop)]
+#[derive(Clone, Copy)]
 enum Start {
     Length(usize),
     Cut,

@@ -47,7 +47,7 @@ pub fn dropped(batch: &[u8], out: &mut [u8], step: Step) -> Step {
 }
 
 // Pointers that are told, and the run after them.
-#[derive(Drop)]
+#[derive(Clone, Copy)]
 struct Pointers {
     list: [BlobIndirection; 1024],
     run: Run,
@@ -78,7 +78,7 @@ fn listed(batch: &[u8], run: Run, count: u64) -> Pointers {
 }
 
 // Pointers dropped one by one: the map, and the first refusal's number or 0.
-#[derive(Drop)]
+#[derive(Clone, Copy)]
 struct Tally {
     map: FragmentationMap,
     number: u64,

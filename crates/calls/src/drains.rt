@@ -41,7 +41,7 @@ fn taken(out: &mut [u8], image: &[u8], pass: Pass, take: u64) -> Pass {
 }
 
 // What one ask seeks, and the run after it.
-#[derive(Drop)]
+#[derive(Clone, Copy)]
 struct Ask {
     at: usize,
     len: usize,

@@ -9,7 +9,7 @@ use numbers::bytes::part;
 use numbers::handle::BlobIndirection;
 
 // A writer, and the run beside it.
-#[derive(Drop)]
+#[derive(Clone, Copy)]
 struct Work {
     writer: Writer,
     run: Run,
@@ -141,7 +141,7 @@ fn target(batch: &[u8], work: Work) -> Work {
 }
 
 // A place, and the run after it.
-#[derive(Drop)]
+#[derive(Clone, Copy)]
 struct Spot {
     place: Place,
     run: Run,

@@ -3,14 +3,14 @@ use crate::run::Run;
 use numbers::bytes::{get_u64, room};
 
 // A number, and the run after it.
-#[derive(Drop)]
+#[derive(Clone, Copy)]
 pub struct Taken {
     pub value: u64,
     pub run: Run,
 }
 
 // Where a byte string lies in the batch, and the run after it.
-#[derive(Drop)]
+#[derive(Clone, Copy)]
 pub struct Span {
     pub at: usize,
     pub len: usize,

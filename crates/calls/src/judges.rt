@@ -17,7 +17,7 @@ pub fn sum(out: &mut [u8], run: Run, map: FragmentationMap) -> Run {
 }
 
 // A file's id and report, and the run after them.
-#[derive(Drop)]
+#[derive(Clone, Copy)]
 struct Told {
     id: u64,
     report: Report,

@@ -1,4 +1,6 @@
 // Makes the calls that records on standard input ask for, and writes a line for each answer.
+#![tactic(auto)]
+
 mod batch;
 mod counts;
 mod drains;

@@ -7,7 +7,7 @@ use crate::{counts, judges, stores};
 use garbage::map::FragmentationMap;
 
 // A map, the one that it is merged into, and the run beside them.
-#[derive(Drop)]
+#[derive(Clone, Copy)]
 pub struct Step {
     pub map: FragmentationMap,
     pub other: FragmentationMap,
@@ -81,7 +81,7 @@ fn asks(batch: &[u8], out: &mut [u8], step: Step, kind: u64) -> Step {
 }
 
 // Which two maps a step is over. They are the same one but in a merge.
-#[derive(Drop)]
+#[derive(Clone, Copy)]
 struct Pick {
     map: u64,
     other: u64,
@@ -128,7 +128,7 @@ fn made(
 }
 
 // The eight maps, and the run beside them.
-#[derive(Drop)]
+#[derive(Clone, Copy)]
 struct Maps {
     maps: [FragmentationMap; 8],
     run: Run,

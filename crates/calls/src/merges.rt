@@ -10,7 +10,7 @@ use merge::parts::{MergeScanner, Part};
 use numbers::bytes::part;
 
 // A merge's state, whether its last answer was an entry or a refusal, and the run beside it.
-#[derive(Drop)]
+#[derive(Clone, Copy)]
 pub struct Pass {
     pub scanner: MergeScanner,
     pub more: bool,
@@ -29,7 +29,7 @@ pub fn begun(scanner: MergeScanner, run: Run) -> Pass {
 }
 
 // A part of a table, and the run after it.
-#[derive(Drop)]
+#[derive(Clone, Copy)]
 struct Row {
     part: Part,
     run: Run,

@@ -8,7 +8,7 @@ use numbers::handle::{BlobIndirection, ReadIndirection, ValueHandle};
 use numbers::leb128::Wrote;
 
 // An indirection, and the run after it.
-#[derive(Drop)]
+#[derive(Clone, Copy)]
 pub struct Pointed {
     pub indirection: BlobIndirection,
     pub run: Run,

@@ -85,7 +85,7 @@ fn both(out: &mut [u8], run: Run, file: &[u8], key: &[u8], handle: ValueHandle) 
 }
 
 // n id, n offset, n size.
-#[derive(Drop)]
+#[derive(Clone, Copy)]
 struct Aim {
     handle: ValueHandle,
     run: Run,

@@ -4,7 +4,7 @@ use merge::parts::{MergeScanner, Part};
 use merge::rows::RowsAnswer;
 
 // Both forms' states, whether they agreed so far, and whether they go on.
-#[derive(Drop)]
+#[derive(Clone, Copy)]
 struct Twin {
     one: MergeScanner,
     many: MergeScanner,

@@ -1,5 +1,5 @@
 // How far the program has come, handed to each function and handed back.
-#[derive(Drop)]
+#[derive(Clone, Copy)]
 pub struct Run {
     // the next byte to read of the batch
     pub at: usize,

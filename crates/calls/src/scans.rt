@@ -11,7 +11,7 @@ use hash::Hash128;
 use numbers::bytes::part;
 
 // A scanner, whether it may step on, and the run beside it.
-#[derive(Drop)]
+#[derive(Clone, Copy)]
 struct Scan {
     scanner: Scanner,
     more: bool,

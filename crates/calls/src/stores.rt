@@ -67,7 +67,7 @@ pub fn loaded(batch: &[u8], out: &mut [u8], step: Step) -> Step {
 }
 
 // Ids that are told, up to 256, and the run after them.
-#[derive(Drop)]
+#[derive(Clone, Copy)]
 struct Ids {
     ids: [u64; 256],
     run: Run,

@@ -1,4 +1,6 @@
 // Document 01's edges that no record of the calls program can hold, run: a heading for each paragraph, a line for each case.
+#![tactic(auto)]
+
 mod cuts;
 mod dead;
 mod keys;

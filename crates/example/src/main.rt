@@ -1,5 +1,7 @@
 // README's example: two images go into a blob file, the file is scanned, and one image is read back by its handle. The stored output is
 // by document 01's rules: a frame is 38 bytes, key and value, so the second one begins at 38 + 6 + 19.
+#![tactic(auto)]
+
 use frames::reader::{look, value};
 use frames::scanner::{ScanEntry, Scanned, Scanner};
 use frames::writer::{Appended, Writer};

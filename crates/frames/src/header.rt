@@ -15,7 +15,7 @@ pub(crate) const META: u32 = 0x4154_454d;
 // As in the Rust: the mark and the numbers before the key.
 pub(crate) const BLOB_HEADER_LEN: usize = 38;
 
-#[derive(Drop)]
+#[derive(Clone, Copy)]
 pub(crate) struct Header {
     pub sum: Hash128,
     pub seqno: u64,

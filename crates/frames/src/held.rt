@@ -6,7 +6,7 @@ ghost use Rattle.frames.specs.Held.{holding};
 use super::scanner::{Scanned, Scanner};
 
 // The file, and where in it the scan stands.
-#[derive(Drop)]
+#[derive(Clone, Copy)]
 pub struct FileScanner<'a> {
     pub file: &'a [u8],
     pub scanner: Scanner,

@@ -1,4 +1,6 @@
 // Frames of a blob file: the writer, the scan and the point read.
+#![tactic(auto)]
+
 mod header;
 pub mod held;
 pub mod place;

@@ -11,7 +11,7 @@ use numbers::cut::CutShort;
 use numbers::handle::ValueHandle;
 
 // What a read found: the refusal's number, or 0; where the value lies; both sums, of a frame that was hashed; and, for 7, what was cut short.
-#[derive(Drop)]
+#[derive(Clone, Copy)]
 pub struct Told {
     pub number: u64,
     pub value: Place,

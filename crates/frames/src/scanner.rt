@@ -10,14 +10,14 @@ use hash::{Hash128, xxh3_128, xxh3_128_joined};
 use numbers::bytes::{lesser, part, room, tail};
 use numbers::cut::CutShort;
 
-#[derive(Drop)]
+#[derive(Clone, Copy)]
 pub struct Scanner {
     pub at: usize,
     pub ended: bool,
 }
 
 // A frame's numbers, and where its key and value lie in the file.
-#[derive(Drop)]
+#[derive(Clone, Copy)]
 pub struct ScanEntry {
     pub offset: usize,
     pub key: Place,
@@ -26,7 +26,7 @@ pub struct ScanEntry {
     pub value: Place,
 }
 
-#[derive(Drop)]
+#[derive(Clone, Copy)]
 pub enum ScanRefusal {
     CutShort(CutShort),
     InvalidHeader {
@@ -39,21 +39,21 @@ pub enum ScanRefusal {
     },
 }
 
-#[derive(Drop)]
+#[derive(Clone, Copy)]
 pub enum Scanned {
     Entry(ScanEntry, Scanner),
     End { at: usize, next: Scanner },
     Refused(ScanRefusal, Scanner),
 }
 
-#[derive(Drop)]
+#[derive(Clone, Copy)]
 pub enum FrameRefusal {
     CutShort(CutShort),
     InvalidHeader { at: usize },
 }
 
 // What a step finds that does not look at the sum: an entry comes with the sum that its header stores.
-#[derive(Drop)]
+#[derive(Clone, Copy)]
 pub enum Framed {
     Entry(ScanEntry, Hash128, Scanner),
     End { at: usize, next: Scanner },

@@ -2,7 +2,7 @@
 ghost use Rattle.std.specs.Prelude.{◌≡◌, ◌<◌, ◌≤◌, ◌^◌};
 ghost use Rattle.frames.specs.Shape.{size_of};
 
-#[derive(Drop)]
+#[derive(Clone, Copy)]
 pub struct Shape {
     // bytes before the key
     pub front: u16,

@@ -18,7 +18,7 @@ use numbers::handle::{BlobIndirection, ValueHandle};
 const MOST: u64 = 0xffff_ffff_ffff_ffff;
 
 // A file being written: where the next frame goes, the totals so far, and where the first and the last key lie.
-#[derive(Drop)]
+#[derive(Clone, Copy)]
 pub struct Writer {
     pub id: u64,
     pub offset: usize,
@@ -32,7 +32,7 @@ pub struct Writer {
 }
 
 // What finishing a file reports.
-#[derive(Drop)]
+#[derive(Clone, Copy)]
 pub struct Report {
     pub items: u64,
     pub disk: u64,
@@ -41,7 +41,7 @@ pub struct Report {
     pub last: Place,
 }
 
-#[derive(Drop)]
+#[derive(Clone, Copy)]
 pub enum AppendRefusal {
     Finished,
     BadKey,
@@ -51,40 +51,40 @@ pub enum AppendRefusal {
 }
 
 // Last: that append reached the target, and finished the file.
-#[derive(Drop)]
+#[derive(Clone, Copy)]
 pub enum Appended {
     Put(BlobIndirection, Writer),
     Last(BlobIndirection, Writer, Report),
     Refused(AppendRefusal, Writer),
 }
 
-#[derive(Drop)]
+#[derive(Clone, Copy)]
 pub enum FinishRefusal {
     Finished,
     NothingWritten,
     NoRoom,
 }
 
-#[derive(Drop)]
+#[derive(Clone, Copy)]
 pub enum Closed {
     Done(Writer, Report),
     Refused(FinishRefusal, Writer),
 }
 
-#[derive(Drop)]
+#[derive(Clone, Copy)]
 pub enum NextRefusal {
     NotFinished,
     IdsUsedUp,
 }
 
-#[derive(Drop)]
+#[derive(Clone, Copy)]
 pub enum Opened {
     Next(Writer),
     Refused(NextRefusal, Writer),
 }
 
 // Whether an append is taken, or why not.
-#[derive(Drop)]
+#[derive(Clone, Copy)]
 enum Judged {
     Go,
     No(AppendRefusal),

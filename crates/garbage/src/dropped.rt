@@ -8,7 +8,7 @@ use crate::columns::{add, ascending};
 use crate::map::{CountRefusal, Counted, FragmentationEntry, FragmentationMap};
 use numbers::handle::BlobIndirection;
 
-#[derive(Drop)]
+#[derive(Clone, Copy)]
 pub struct Dropped {
     pub answer: Counted,
     pub map: FragmentationMap,

@@ -1,4 +1,6 @@
 // The fragmentation map: what was dropped of each blob file, and what is judged by it.
+#![tactic(auto)]
+
 pub mod batch;
 mod columns;
 pub mod dropped;

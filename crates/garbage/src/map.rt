@@ -8,7 +8,7 @@ use crate::columns::{ascending, entry_at, place};
 use crate::dropped::told;
 
 // What was dropped of one file: frames, stated bytes, on-disk value bytes.
-#[derive(Drop)]
+#[derive(Clone, Copy)]
 pub struct FragmentationEntry {
     pub id: u64,
     pub frames: u32,
@@ -16,7 +16,7 @@ pub struct FragmentationEntry {
     pub disk: u64,
 }
 
-#[derive(Drop)]
+#[derive(Clone, Copy)]
 pub struct FragmentationMap {
     pub count: usize,
     pub ids: [u64; 64],
@@ -26,20 +26,20 @@ pub struct FragmentationMap {
 }
 
 // Why nothing was added up: the map is malformed or would hold more than 64 ids, or a total would pass its width.
-#[derive(Drop)]
+#[derive(Clone, Copy)]
 pub enum CountRefusal {
     MapFull,
     SumTooBig,
 }
 
-#[derive(Drop)]
+#[derive(Clone, Copy)]
 pub enum Counted {
     Done,
     Refused(CountRefusal),
 }
 
 // What a map holds of an id. Refused: the map is malformed.
-#[derive(Drop)]
+#[derive(Clone, Copy)]
 pub enum Lookup {
     Found(FragmentationEntry),
     NoEntry,

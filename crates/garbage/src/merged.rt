@@ -10,7 +10,7 @@ use crate::dropped::told;
 use crate::map::{CountRefusal, Counted, FragmentationEntry, FragmentationMap, well_formed};
 
 // The target holds the totals of both and the source is empty; refused, both are as they came in.
-#[derive(Drop)]
+#[derive(Clone, Copy)]
 pub struct Merged {
     pub answer: Counted,
     pub source: FragmentationMap,

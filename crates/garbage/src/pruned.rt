@@ -9,19 +9,19 @@ use crate::columns::{MOST, entry_at, write};
 use crate::map::{CountRefusal, FragmentationEntry, FragmentationMap, well_formed};
 
 // MapFull: the map is malformed.
-#[derive(Drop)]
+#[derive(Clone, Copy)]
 pub enum PruneAnswer {
     Done,
     MapFull,
 }
 
-#[derive(Drop)]
+#[derive(Clone, Copy)]
 pub struct Pruned {
     pub answer: PruneAnswer,
     pub map: FragmentationMap,
 }
 
-#[derive(Drop)]
+#[derive(Clone, Copy)]
 pub enum StaleBytes {
     Sum(u64),
     Refused(CountRefusal),

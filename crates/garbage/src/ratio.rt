@@ -5,7 +5,7 @@ ghost use Rattle.std.specs.Float.Ieee.{of_int};
 ghost use Rattle.garbage.specs.Ratio.{rounded, lost, round24_of, ratio_of};
 
 // A number as a mantissa of at most 2^24, times 2^shift.
-#[derive(Drop)]
+#[derive(Clone, Copy)]
 pub struct Rounded {
     pub mantissa: u64,
     pub shift: u32,

@@ -9,19 +9,19 @@ use numbers::handle::{BlobIndirection, ReadIndirection};
 use numbers::leb128::NumberRefusal;
 
 // Why a record was not counted: a number of it could not be read, or the drop was refused.
-#[derive(Drop)]
+#[derive(Clone, Copy)]
 pub enum RecordRefusal {
     Number(NumberRefusal),
     Count(CountRefusal),
 }
 
-#[derive(Drop)]
+#[derive(Clone, Copy)]
 pub enum RecordAnswer {
     Done,
     Refused(RecordRefusal),
 }
 
-#[derive(Drop)]
+#[derive(Clone, Copy)]
 pub struct RecordDropped {
     pub answer: RecordAnswer,
     pub map: FragmentationMap,

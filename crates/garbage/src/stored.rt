@@ -12,32 +12,32 @@ use crate::map::{FragmentationEntry, FragmentationMap};
 use numbers::bytes::{get_u32, get_u64, put_u32, put_u64};
 use numbers::cut::CutShort;
 
-#[derive(Drop)]
+#[derive(Clone, Copy)]
 pub enum StoreRefusal {
     MapFull,
     NoRoom,
 }
 
-#[derive(Drop)]
+#[derive(Clone, Copy)]
 pub enum Stored {
     Used(usize),
     Refused(StoreRefusal),
 }
 
-#[derive(Drop)]
+#[derive(Clone, Copy)]
 pub enum LoadRefusal {
     CutShort(CutShort),
     MapFull,
 }
 
-#[derive(Drop)]
+#[derive(Clone, Copy)]
 pub enum LoadAnswer {
     Used(usize),
     Refused(LoadRefusal),
 }
 
 // The map that was read; refused, an empty one.
-#[derive(Drop)]
+#[derive(Clone, Copy)]
 pub struct Loaded {
     pub answer: LoadAnswer,
     pub map: FragmentationMap,

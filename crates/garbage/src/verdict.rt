@@ -8,7 +8,7 @@ use crate::ratio::ratio;
 use frames::writer::Report;
 
 // Refused: the map is malformed.
-#[derive(Drop)]
+#[derive(Clone, Copy)]
 pub enum DeadVerdict {
     Dead,
     Wanted,
@@ -17,7 +17,7 @@ pub enum DeadVerdict {
 }
 
 // The ratio that a file was judged by stands in the verdict.
-#[derive(Drop)]
+#[derive(Clone, Copy)]
 pub enum StaleVerdict {
     Stale(f32),
     Kept(f32),

@@ -1,4 +1,6 @@
 // XXH3, 128 bits, seed 0 and default secret: of a slice, and of a key and a value as one string.
+#![tactic(auto)]
+
 ghost use Rattle.std.specs.Prelude.{◌≡◌, ◌++◌};
 ghost use Rattle.hash.specs.XXH3.{xxh3_128};
 
@@ -12,7 +14,7 @@ mod short;
 mod words;
 
 // The two halves of a hash.
-#[derive(Drop)]
+#[derive(Clone, Copy)]
 pub struct Hash128 {
     pub low: u64,
     pub high: u64,

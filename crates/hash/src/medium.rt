@@ -11,21 +11,21 @@ use numbers::wide::wrapping_mul;
 use std::num::{wrapping_add_u64, wrapping_sub_u64};
 
 // The two accumulators.
-#[derive(Drop)]
+#[derive(Clone, Copy)]
 pub struct Acc {
     pub a0: u64,
     pub a1: u64,
 }
 
 // 16 bytes as two words.
-#[derive(Drop)]
+#[derive(Clone, Copy)]
 pub struct Two {
     pub x: u64,
     pub y: u64,
 }
 
 // Four words of the secret.
-#[derive(Drop)]
+#[derive(Clone, Copy)]
 pub struct Key {
     pub a: u64,
     pub b: u64,

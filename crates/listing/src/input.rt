@@ -2,14 +2,14 @@
 use libc::STDIN_FILENO;
 use numbers::bytes::{lesser, room};
 
-#[derive(Drop)]
+#[derive(Clone, Copy)]
 pub enum Input {
     Bytes(usize),
     Failed,
 }
 
 // What one read gave: the place after its bytes, nothing more, or a failure.
-#[derive(Drop)]
+#[derive(Clone, Copy)]
 enum Read {
     To(usize),
     End,

@@ -3,7 +3,7 @@ use frames::scanner::{ScanEntry, Scanned, Scanner};
 use libc::STDOUT_FILENO;
 
 // Where the next step begins, or that the list is over.
-#[derive(Drop)]
+#[derive(Clone, Copy)]
 enum Turn {
     On(usize),
     Over,

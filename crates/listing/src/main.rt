@@ -1,4 +1,6 @@
 // The listing program: the frames in the first 65,536 bytes of standard input.
+#![tactic(auto)]
+
 mod input;
 mod list;
 

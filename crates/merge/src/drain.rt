@@ -18,7 +18,7 @@ use numbers::bytes::part;
 use numbers::handle::ValueHandle;
 
 // What an entry is to the one sought.
-#[derive(Drop)]
+#[derive(Clone, Copy)]
 enum Verdict {
     Found,
     Past,
@@ -26,7 +26,7 @@ enum Verdict {
     Skip,
 }
 
-#[derive(Drop)]
+#[derive(Clone, Copy)]
 pub enum DrainRefusal {
     BadPart,
     NotMatched,
@@ -46,7 +46,7 @@ impl DrainRefusal {
     }
 }
 
-#[derive(Drop)]
+#[derive(Clone, Copy)]
 pub enum DrainOutcome {
     Found,
     Past,
@@ -54,7 +54,7 @@ pub enum DrainOutcome {
     Refused(DrainRefusal),
 }
 
-#[derive(Drop)]
+#[derive(Clone, Copy)]
 pub struct Drained {
     pub state: MergeScanner,
     pub outcome: DrainOutcome,

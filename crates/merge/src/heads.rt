@@ -2,7 +2,7 @@
 use frames::place::Place;
 
 // An entry of a part. The offset counts from the part's start; key and value lie in the image.
-#[derive(Drop)]
+#[derive(Clone, Copy)]
 pub struct MergeEntry {
     pub part: usize,
     pub file: u64,

@@ -11,27 +11,27 @@ use frames::scanner::{ScanEntry, ScanRefusal, Scanned, Scanner};
 use numbers::bytes::part;
 
 // A head that was scanned: an entry with the position after it, or nothing where its part has ended.
-#[derive(Drop)]
+#[derive(Clone, Copy)]
 pub struct Kept {
     pub live: bool,
     pub next: usize,
     pub entry: MergeEntry,
 }
 
-#[derive(Drop)]
+#[derive(Clone, Copy)]
 pub enum Fault {
     Clear,
     At { part: usize, why: ScanRefusal },
 }
 
-#[derive(Drop)]
+#[derive(Clone, Copy)]
 pub struct Seen {
     pub kept: Kept,
     pub fault: Fault,
 }
 
 // The tournament of the heads: leaf 16 + i is the head of part i. Beside it the refusal of the lowest part that refuses.
-#[derive(Drop)]
+#[derive(Clone, Copy)]
 pub struct Heads {
     pub tree: [Kept; 32],
     pub fault: Fault,

@@ -1,4 +1,6 @@
 // The merge of up to sixteen parts of one image, and the drain before a relocation.
+#![tactic(auto)]
+
 pub mod drain;
 pub mod heads;
 mod kept;

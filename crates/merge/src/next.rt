@@ -10,7 +10,7 @@ use super::table::{fits, taken};
 use super::tournament::{answer, begin};
 use frames::scanner::ScanRefusal;
 
-#[derive(Drop)]
+#[derive(Clone, Copy)]
 pub enum MergeRefusal {
     BadPart,
     Scan { part: usize, why: ScanRefusal },
@@ -28,14 +28,14 @@ impl MergeRefusal {
     }
 }
 
-#[derive(Drop)]
+#[derive(Clone, Copy)]
 pub enum MergeAnswer {
     Entry(MergeEntry),
     End,
     Refused(MergeRefusal),
 }
 
-#[derive(Drop)]
+#[derive(Clone, Copy)]
 pub struct Merged {
     pub state: MergeScanner,
     pub answer: MergeAnswer,

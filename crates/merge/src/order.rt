@@ -4,7 +4,7 @@ ghost use Rattle.merge.specs.Order.{order_of};
 
 use numbers::bytes::{get_u64, room, tail};
 
-#[derive(Drop)]
+#[derive(Clone, Copy)]
 pub enum Order {
     Less,
     Equal,

@@ -3,7 +3,7 @@ ghost use Rattle.std.specs.Prelude.{◌≡◌};
 ghost use Rattle.merge.specs.Parts.{start_of};
 
 // A part of the image: where it starts, its length, the id of the file that it is, and the position in it.
-#[derive(Drop)]
+#[derive(Clone, Copy)]
 pub struct Part {
     pub start: usize,
     pub length: usize,
@@ -12,7 +12,7 @@ pub struct Part {
 }
 
 // The parts from 0 up to `count`; those beyond are not looked at.
-#[derive(Drop)]
+#[derive(Clone, Copy)]
 pub struct MergeScanner {
     pub count: usize,
     pub parts: [Part; 16],

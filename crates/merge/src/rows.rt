@@ -14,7 +14,7 @@ use super::table::fits;
 use super::tournament::{answer, begin, win};
 use frames::scanner::ScanRefusal;
 
-#[derive(Drop)]
+#[derive(Clone, Copy)]
 pub enum RowsRefusal {
     BadPart,
     NoRoom,
@@ -35,21 +35,21 @@ impl RowsRefusal {
 }
 
 // How many rows were written; or the end or the refusal that stands before the first.
-#[derive(Drop)]
+#[derive(Clone, Copy)]
 pub enum RowsAnswer {
     Rows(usize),
     End,
     Refused(RowsRefusal),
 }
 
-#[derive(Drop)]
+#[derive(Clone, Copy)]
 pub struct Rowed {
     pub state: MergeScanner,
     pub answer: RowsAnswer,
 }
 
 // A pass that wrote so many rows.
-#[derive(Drop)]
+#[derive(Clone, Copy)]
 struct Written {
     state: MergeScanner,
     rows: usize,

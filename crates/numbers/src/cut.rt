@@ -1,5 +1,5 @@
 // Cut short: where reading began, the bytes needed from there, and the bytes present.
-#[derive(Drop)]
+#[derive(Clone, Copy)]
 pub struct CutShort {
     pub at: usize,
     pub needed: usize,

@@ -8,26 +8,26 @@ use crate::bytes::room;
 use crate::leb128::{NumberRefusal, ReadU32, ReadU64, Wrote, read_u32, read_u64};
 use crate::spell::{size, spell};
 
-#[derive(Drop)]
+#[derive(Clone, Copy)]
 pub struct ValueHandle {
     pub offset: u64,
     pub file: u64,
     pub size: u32,
 }
 
-#[derive(Drop)]
+#[derive(Clone, Copy)]
 pub struct BlobIndirection {
     pub handle: ValueHandle,
     pub stated: u32,
 }
 
-#[derive(Drop)]
+#[derive(Clone, Copy)]
 pub enum ReadHandle {
     Handle { handle: ValueHandle, used: usize },
     Refused(NumberRefusal),
 }
 
-#[derive(Drop)]
+#[derive(Clone, Copy)]
 pub enum ReadIndirection {
     Indirection {
         indirection: BlobIndirection,

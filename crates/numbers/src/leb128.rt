@@ -9,13 +9,13 @@ use crate::cut::CutShort;
 use crate::octet::wide;
 use crate::spell::{size, spell};
 
-#[derive(Drop)]
+#[derive(Clone, Copy)]
 pub enum Wrote {
     Used(usize),
     NoRoom,
 }
 
-#[derive(Drop)]
+#[derive(Clone, Copy)]
 pub enum NumberRefusal {
     CutShort(CutShort),
     TooLong,
@@ -45,13 +45,13 @@ impl NumberRefusal {
     }
 }
 
-#[derive(Drop)]
+#[derive(Clone, Copy)]
 pub enum ReadU64 {
     Number { value: u64, used: usize },
     Refused(NumberRefusal),
 }
 
-#[derive(Drop)]
+#[derive(Clone, Copy)]
 pub enum ReadU32 {
     Number { value: u32, used: usize },
     Refused(NumberRefusal),

@@ -1,4 +1,6 @@
 // Numbers in bytes.
+#![tactic(auto)]
+
 pub mod bytes;
 pub mod cut;
 pub mod handle;

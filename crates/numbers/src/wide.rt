@@ -5,7 +5,7 @@ ghost use Rattle.numbers.specs.Wide.{mul64, wide_of, rotl32, bswap};
 use std::num::wrapping_add_u64;
 
 // The two halves of a product of 128 bits.
-#[derive(Drop)]
+#[derive(Clone, Copy)]
 pub struct Wide {
     pub low: u64,
     pub high: u64,

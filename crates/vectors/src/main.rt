@@ -1,6 +1,8 @@
 // Writes LENGTH LOW HIGH for the first bytes of the published test input at every length from 0 to 4160; the file stdout is the published list:
 // xxHash 0.8.3, tests/sanity_test_vectors.h, of the table XSUM_XXH128_testdata the entries of seed 0. The library (libxxhash) computes the same list.
 // A line that begins with "joined" follows where key and value hash otherwise than the bytes that they are together.
+#![tactic(auto)]
+
 use libc::STDOUT_FILENO;
 
 // The published input: each byte is the top byte of a number that is multiplied by a prime after it.
