@@ -7,7 +7,7 @@ use Rattle.numbers.proofs.bytes.byte.Tie as tie
 room-requires : tie.Need-room-requires
 room-requires c κs = search rules
 
-add-result : tie.Need-overflow-add-result
+add-result : tie.Need-overflow_add-result
 add-result c = search rules
 
 shared-slice-read-result : tie.Need-shared-slice-read-result

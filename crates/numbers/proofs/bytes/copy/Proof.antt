@@ -37,13 +37,13 @@ loop-holds c = (rw (add-zero c.before.before.before.before.args.at), refl, searc
 shared-slice-read-buf : tie.Need-shared-slice-read-buf invariant-loop decreases-loop
 shared-slice-read-buf c = search rules
 
-add-buf : tie.Need-overflow-add-buf invariant-loop decreases-loop
+add-buf : tie.Need-overflow_add-buf invariant-loop decreases-loop
 add-buf c = search rules
 
 slice-write-buf : tie.Need-slice-write-buf invariant-loop decreases-loop
 slice-write-buf c = search rules
 
-add-i : tie.Need-overflow-add-i invariant-loop decreases-loop
+add-i : tie.Need-overflow_add-i invariant-loop decreases-loop
 add-i c = search rules
 
 loop-less : tie.Need-loop-smaller invariant-loop decreases-loop

@@ -13,16 +13,16 @@ add-four c = search rules
 four-requires-2 : tie.Need-four-requires-2
 four-requires-2 c κs = search rules
 
-mul-result : tie.Need-overflow-mul-result
+mul-result : tie.Need-overflow_mul-result
 mul-result c = search rules
 
-add-result : tie.Need-overflow-add-result
+add-result : tie.Need-overflow_add-result
 add-result c = search rules
 
 returns : tie.Need-returns
 returns c =
     let a = c.before.before.before.args in
-    (halves-read 4 a.at a.s.now c.before.four.result c.four2.result c.before.four.ensures.0 c.four2.ensures.0, omega arith)
+    (halves-read 4 a.at a.s.now c.before.four.result c.four-2.result c.before.four.ensures.0 c.four-2.ensures.0, omega arith)
 
 pub eight-spec : {M : Type 1} → statement M
 eight-spec =

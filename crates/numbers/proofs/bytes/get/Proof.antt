@@ -31,10 +31,10 @@ loop-holds : tie.Need-loop-init invariant-loop decreases-loop
 unfolding num
 loop-holds c = (search rules, simp (sub_self, num), simp sub_self (lit< tt))
 
-sub-i : tie.Need-overflow-sub-i invariant-loop decreases-loop
+sub-i : tie.Need-overflow_sub-i invariant-loop decreases-loop
 sub-i c = search rules
 
-mul-acc : tie.Need-overflow-mul-acc invariant-loop decreases-loop
+mul-acc : tie.Need-overflow_mul-acc invariant-loop decreases-loop
 mul-acc c =
     let l = c.before.loop in
     let h : l.acc < 2 ^ 56 = fits c.before.before.before.args.width l.i l.acc (search rules) (search rules) l.invariant.2 in
@@ -46,7 +46,7 @@ byte-requires c κs = search rules
 wide-requires : tie.Need-wide-requires invariant-loop decreases-loop
 wide-requires c κs = search rules
 
-add-acc : tie.Need-overflow-add-acc invariant-loop decreases-loop
+add-acc : tie.Need-overflow_add-acc invariant-loop decreases-loop
 add-acc c =
     let l = c.before.before.before.loop in
     let h : l.acc < 2 ^ 56 = fits c.before.before.before.before.before.args.width l.i l.acc (search rules) (search rules) l.invariant.2 in

@@ -36,16 +36,16 @@ returns c =
     let l = c.before.before.loop in
     sym (sets-out (le l.left l.rest) l.buf l.to (search rules)) ∙ l.invariant.0
 
-cast-buf : tie.Need-overflow-cast-buf invariant-loop decreases-loop
+cast-buf : tie.Need-overflow_cast-buf invariant-loop decreases-loop
 cast-buf c = search rules
 
 slice-write-buf : tie.Need-slice-write-buf invariant-loop decreases-loop
 slice-write-buf c = search rules
 
-add-to : tie.Need-overflow-add-to invariant-loop decreases-loop
+add-to : tie.Need-overflow_add-to invariant-loop decreases-loop
 add-to c = search rules
 
-sub-left : tie.Need-overflow-sub-left invariant-loop decreases-loop
+sub-left : tie.Need-overflow_sub-left invariant-loop decreases-loop
 sub-left c = search rules
 
 loop-less : tie.Need-loop-smaller invariant-loop decreases-loop

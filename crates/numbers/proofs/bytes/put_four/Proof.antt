@@ -4,13 +4,13 @@ use Rattle.std.proofs.Common.{rules}
 use Rattle.numbers.proofs.bytes.put_four.Statement.{statement}
 use Rattle.numbers.proofs.bytes.put_four.Tie as tie
 
-put-two-requires : tie.Need-put-two-requires
+put-two-requires : tie.Need-put_two-requires
 put-two-requires c κs = search rules
 
 add-put-two : tie.Need-overflow-add-put-two
 add-put-two c = search rules
 
-put-two-requires-2 : tie.Need-put-two-requires-2
+put-two-requires-2 : tie.Need-put_two-requires-2
 put-two-requires-2 c κs = search rules
 
 same_length : tie.Need-same-length
@@ -19,7 +19,7 @@ same_length c = search rules
 returns : tie.Need-returns
 returns c =
     let a = c.before.before.before.before.before.before.before.before.before.args in
-    halves_put 2 a.at a.x a.buf.now _ _ c.before.before.before.before.before.before.put_two.ensures c.before.before.put-two2.ensures
+    halves_put 2 a.at a.x a.buf.now _ _ c.before.before.before.before.before.before.put_two.ensures c.before.before.put_two-2.ensures
 
 pub put-four-spec : {M : Type 1} → statement M
 put-four-spec =

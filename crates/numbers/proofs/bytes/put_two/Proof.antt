@@ -5,16 +5,16 @@ use Rattle.numbers.specs.Le.{le}
 use Rattle.numbers.proofs.bytes.put_two.Statement.{statement}
 use Rattle.numbers.proofs.bytes.put_two.Tie as tie
 
-cast-buf : tie.Need-overflow-cast-buf
+cast-buf : tie.Need-overflow_cast-buf
 cast-buf c = search rules
 
 slice-write-buf : tie.Need-slice-write-buf
 slice-write-buf c = search rules
 
-cast-buf-2 : tie.Need-overflow-cast-buf-2
+cast-buf-2 : tie.Need-overflow_cast-buf-2
 cast-buf-2 c = search rules
 
-add-buf : tie.Need-overflow-add-buf
+add-buf : tie.Need-overflow_add-buf
 add-buf c = search rules
 
 slice-write-buf-2 : tie.Need-slice-write-buf-2

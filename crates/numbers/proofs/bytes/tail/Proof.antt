@@ -10,10 +10,10 @@ lesser-requires c κs = search rules
 sub-result : tie.Need-overflow-sub-result
 sub-result c = search rules
 
-part-result-start : tie.Need-slice-bounds-result-start
+part-result-start : tie.Need-slice_bounds-result-start
 part-result-start c = search rules
 
-part-result-end : tie.Need-slice-bounds-result-end
+part-result-end : tie.Need-slice_bounds-result-end
 part-result-end c = search rules
 
 returns : tie.Need-returns

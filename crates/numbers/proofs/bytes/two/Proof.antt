@@ -19,16 +19,16 @@ shared-slice-read-wide-2 c = search rules
 wide-requires-2 : tie.Need-wide-requires-2
 wide-requires-2 c κs = search rules
 
-mul-result : tie.Need-overflow-mul-result
+mul-result : tie.Need-overflow_mul-result
 mul-result c = search rules
 
-add-result : tie.Need-overflow-add-result
+add-result : tie.Need-overflow_add-result
 add-result c = search rules
 
 returns : tie.Need-returns
 returns c =
     let a = c.before.before.before.before.before.args in
-    (halves-read 1 a.at a.s.now c.before.before.wide.result c.wide2.result (c.before.before.wide.ensures.0 ∙ num-one a.at a.s.now) (c.wide2.ensures.0 ∙ num-one (a.at + 1) a.s.now), omega arith)
+    (halves-read 1 a.at a.s.now c.before.before.wide.result c.wide-2.result (c.before.before.wide.ensures.0 ∙ num-one a.at a.s.now) (c.wide-2.ensures.0 ∙ num-one (a.at + 1) a.s.now), omega arith)
 
 pub two-spec : {M : Type 1} → statement M
 two-spec =

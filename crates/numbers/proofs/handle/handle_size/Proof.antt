@@ -10,7 +10,7 @@ size-requires c κs = search rules
 size-requires-2 : tie.Need-size-requires-2
 size-requires-2 c κs = search rules
 
-add-result : tie.Need-overflow-add-result
+add-result : tie.Need-overflow_add-result
 add-result c = search rules
 
 cast-size : tie.Need-overflow-cast-size
@@ -19,7 +19,7 @@ cast-size c = search rules
 size-requires-3 : tie.Need-size-requires-3
 size-requires-3 c κs = search rules
 
-add-result-2 : tie.Need-overflow-add-result-2
+add-result-2 : tie.Need-overflow_add-result-2
 add-result-2 c = search rules
 
 returns : tie.Need-returns

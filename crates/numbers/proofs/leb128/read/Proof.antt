@@ -59,7 +59,7 @@ returns-2 c =
     let p = l.invariant in
     sym (ap as_u64 (turn-number ((a.last + 1) * 128 ^ (a.most - 1)) a.at a.most l.i l.value l.weight a.t.now p c.before.wide.result c.before.wide.ensures.0 (search rules) (search rules) (under a.most a.last l.i l.value l.weight c.before.wide.result a.t.now p (search rules) (search rules))))
 
-mul-value : tie.Need-overflow-mul-value invariant-loop decreases-loop
+mul-value : tie.Need-overflow_mul-value invariant-loop decreases-loop
 mul-value c =
     let l = c.before.before.before.before.before.loop in
     let a = c.before.before.before.before.before.before.before.args in
@@ -67,7 +67,7 @@ mul-value c =
     let h : c.before.wide.result - 128 < 128 = search rules in
     omega (arith, weight_fits a.most a.last l.i l.value l.weight (c.before.wide.result - 128) a.t.now p (search rules) (search rules), group_fits a.most a.last l.i l.value l.weight (c.before.wide.result - 128) a.t.now p h)
 
-add-value : tie.Need-overflow-add-value invariant-loop decreases-loop
+add-value : tie.Need-overflow_add-value invariant-loop decreases-loop
 add-value c =
     let l = c.before.before.before.before.before.loop in
     let a = c.before.before.before.before.before.before.before.args in
@@ -75,14 +75,14 @@ add-value c =
     let h : c.before.wide.result - 128 < 128 = search rules in
     omega (arith, weight_fits a.most a.last l.i l.value l.weight (c.before.wide.result - 128) a.t.now p (search rules) (search rules), group_fits a.most a.last l.i l.value l.weight (c.before.wide.result - 128) a.t.now p h)
 
-mul-weight : tie.Need-overflow-mul-weight invariant-loop decreases-loop
+mul-weight : tie.Need-overflow_mul-weight invariant-loop decreases-loop
 mul-weight c =
     let l = c.before.before.before.before.before.loop in
     let a = c.before.before.before.before.before.before.before.args in
     let p = l.invariant in
     omega (arith, weight_fits a.most a.last l.i l.value l.weight 0 a.t.now p (search rules) (search rules))
 
-add-i : tie.Need-overflow-add-i invariant-loop decreases-loop
+add-i : tie.Need-overflow_add-i invariant-loop decreases-loop
 add-i c = search rules
 
 loop-less : tie.Need-loop-smaller invariant-loop decreases-loop

@@ -10,7 +10,7 @@ tail-requires c κs = search rules
 read-requires : tie.Need-read-requires
 read-requires c κs = search rules
 
-enum-known-r : tie.Need-enum-known-r
+enum-known-r : tie.Need-enum_known-r
 enum-known-r c = search rules
 
 cast-t9 : tie.Need-overflow-cast-t9

@@ -17,7 +17,7 @@ loop-holds c =
     let h : x < 2 ^ 64 = search rules in
     (omega arith, length_most 9 x (omega arith))
 
-add-n : tie.Need-overflow-add-n invariant-loop decreases-loop
+add-n : tie.Need-overflow_add-n invariant-loop decreases-loop
 add-n c = search rules
 
 loop-less : tie.Need-loop-smaller invariant-loop decreases-loop

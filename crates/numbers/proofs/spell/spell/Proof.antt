@@ -24,10 +24,10 @@ last b to rest h = rw (shortest-one rest h)
 loop-holds : tie.Need-loop-init invariant-loop decreases-loop
 loop-holds c = (refl, refl, refl)
 
-add-buf : tie.Need-overflow-add-buf invariant-loop decreases-loop
+add-buf : tie.Need-overflow_add-buf invariant-loop decreases-loop
 add-buf c = search rules
 
-cast-buf : tie.Need-overflow-cast-buf invariant-loop decreases-loop
+cast-buf : tie.Need-overflow_cast-buf invariant-loop decreases-loop
 cast-buf c = search rules
 
 slice-write-buf : tie.Need-slice-write-buf invariant-loop decreases-loop
@@ -35,7 +35,7 @@ slice-write-buf c =
     let l = c.before.loop in
     omega (arith, length_more l.left (search rules))
 
-add-to : tie.Need-overflow-add-to invariant-loop decreases-loop
+add-to : tie.Need-overflow_add-to invariant-loop decreases-loop
 add-to c = search rules
 
 loop-less : tie.Need-loop-smaller invariant-loop decreases-loop
@@ -47,7 +47,7 @@ loop-again c =
     let h : 128 ≤ l.left = search rules in
     (turn l.buf l.to l.left h ∙ l.invariant.0, omega (arith, length_more l.left h), search rules)
 
-cast-buf-2 : tie.Need-overflow-cast-buf-2 invariant-loop decreases-loop
+cast-buf-2 : tie.Need-overflow_cast-buf-2 invariant-loop decreases-loop
 cast-buf-2 c = search rules
 
 slice-write-buf-2 : tie.Need-slice-write-buf-2 invariant-loop decreases-loop
@@ -55,7 +55,7 @@ slice-write-buf-2 c =
     let l = c.before.loop in
     omega (arith, length-one l.left (search rules))
 
-add-result : tie.Need-overflow-add-result invariant-loop decreases-loop
+add-result : tie.Need-overflow_add-result invariant-loop decreases-loop
 add-result c = search rules
 
 same_length : tie.Need-same-length invariant-loop decreases-loop

@@ -4,10 +4,10 @@ use Rattle.std.proofs.Common.{rules}
 use Rattle.numbers.proofs.wide.product.Statement.{statement}
 use Rattle.numbers.proofs.wide.product.Tie as tie
 
-wrapping-mul-requires : tie.Need-wrapping-mul-requires
+wrapping-mul-requires : tie.Need-wrapping_mul-requires
 wrapping-mul-requires c κs = search rules
 
-high-product-requires : tie.Need-high-product-requires
+high-product-requires : tie.Need-high_product-requires
 high-product-requires c κs = search rules
 
 returns : tie.Need-returns

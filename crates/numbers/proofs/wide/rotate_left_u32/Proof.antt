@@ -7,28 +7,28 @@ use Rattle.numbers.specs.WideLaws.{turn-lt}
 use Rattle.numbers.proofs.wide.rotate_left_u32.Statement.{statement}
 use Rattle.numbers.proofs.wide.rotate_left_u32.Tie as tie
 
-cast-result : tie.Need-overflow-cast-result
+cast-result : tie.Need-overflow_cast-result
 cast-result c = search rules
 
-shl-result : tie.Need-overflow-shl-result
+shl-result : tie.Need-overflow_shl-result
 shl-result c = search rules
 
-sub-result : tie.Need-overflow-sub-result
+sub-result : tie.Need-overflow_sub-result
 sub-result c = search rules
 
-cast-result-2 : tie.Need-overflow-cast-result-2
+cast-result-2 : tie.Need-overflow_cast-result-2
 cast-result-2 c = search rules
 
-shr-result : tie.Need-overflow-shr-result
+shr-result : tie.Need-overflow_shr-result
 shr-result c = search rules
 
-add-result : tie.Need-overflow-add-result
+add-result : tie.Need-overflow_add-result
 add-result c =
     let j = c.args.k % 32 in
     let e = mod-mod-pow (c.args.x * 2 ^ j) 32 32 in
     Fits-bits 64 tt (rw e (lt_of_lt_of_le (turn-lt c.args.x j (search rules) c.ranges.x.fits) (pow_mono {i = 32} {j = 64} (lit≤ tt))))
 
-cast-result-3 : tie.Need-overflow-cast-result-3
+cast-result-3 : tie.Need-overflow_cast-result-3
 cast-result-3 c =
     let j = c.args.k % 32 in
     let e = mod-mod-pow (c.args.x * 2 ^ j) 32 32 in

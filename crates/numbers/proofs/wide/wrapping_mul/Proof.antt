@@ -11,7 +11,7 @@ mul-wrapping-add-u64 c = product-fits (mod-lt c.args.a (pow_pos 32)) (shr_lt 32 
 mul-wrapping-add-u64-2 : tie.Need-overflow-mul-wrapping-add-u64-2
 mul-wrapping-add-u64-2 c = product-fits (shr_lt 32 32 c.ranges.a.fits) (mod-lt c.args.b (pow_pos 32))
 
-wrapping-add-u64-requires : tie.Need-wrapping-add-u64-requires
+wrapping-add-u64-requires : tie.Need-wrapping_add_u64-requires
 wrapping-add-u64-requires c κs = search rules
 
 mul-wrapping-add-u64-3 : tie.Need-overflow-mul-wrapping-add-u64-3

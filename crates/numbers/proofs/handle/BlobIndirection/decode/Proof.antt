@@ -8,22 +8,22 @@ use Rattle.numbers.proofs.handle.BlobIndirection.decode.Tie as tie
 decode-requires : tie.Need-decode-requires
 decode-requires c κs = search rules
 
-enum-known-why : tie.Need-enum-known-why
+enum-known-why : tie.Need-enum_known-why
 enum-known-why c = search rules
 
-enum-known-handle : tie.Need-enum-known-handle
+enum-known-handle : tie.Need-enum_known-handle
 enum-known-handle c = search rules
 
 add-read-u32 : tie.Need-overflow-add-read-u32
 add-read-u32 c = omega (arith, within-handle _ _ _ _ (sym c.before.before.before.decode.ensures ∙ c.before.handle.given.1))
 
-read-u32-requires : tie.Need-read-u32-requires
+read-u32-requires : tie.Need-read_u32-requires
 read-u32-requires c κs = search rules
 
 enum-known-why-2 : tie.Need-enum-known-why-2
 enum-known-why-2 c = search rules
 
-enum-known-stated : tie.Need-enum-known-stated
+enum-known-stated : tie.Need-enum_known-stated
 enum-known-stated c = search rules
 
 add-t15 : tie.Need-overflow-add-t15

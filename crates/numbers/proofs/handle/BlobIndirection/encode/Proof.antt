@@ -6,7 +6,7 @@ use Rattle.numbers.specs.WroteLaws.{wrote_not, wrote_all}
 use Rattle.numbers.proofs.handle.BlobIndirection.encode.Statement.{statement}
 use Rattle.numbers.proofs.handle.BlobIndirection.encode.Tie as tie
 
-handle-size-requires : tie.Need-handle-size-requires
+handle-size-requires : tie.Need-handle_size-requires
 handle-size-requires c κs = search rules
 
 cast-size : tie.Need-overflow-cast-size
@@ -15,7 +15,7 @@ cast-size c = search rules
 size-requires : tie.Need-size-requires
 size-requires c κs = search rules
 
-add-n : tie.Need-overflow-add-n
+add-n : tie.Need-overflow_add-n
 add-n c = search rules
 
 room-requires : tie.Need-room-requires
@@ -24,7 +24,7 @@ room-requires c κs = search rules
 returns : tie.Need-returns
 returns c =
     let a = c.before.before.before.before.before.before.before.args in
-    let n = c.before.before.before.before.handle-size.result + c.before.before.size.result in
+    let n = c.before.before.before.before.handle_size.result + c.before.before.size.result in
     let e : n ≡ length (indirection_bytes a.self) = omega (arith, length_indirection a.self) in
     wrote_not (indirection_bytes a.self) a.buf.now a.at n c.before.room.result e c.before.room.ensures c.if1.true
 

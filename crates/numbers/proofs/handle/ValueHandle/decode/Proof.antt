@@ -4,13 +4,13 @@ use Rattle.numbers.proofs.Decoding.{within_u64, within_u32, offset-refused, file
 use Rattle.numbers.proofs.handle.ValueHandle.decode.Statement.{statement}
 use Rattle.numbers.proofs.handle.ValueHandle.decode.Tie as tie
 
-read-u64-requires : tie.Need-read-u64-requires
+read-u64-requires : tie.Need-read_u64-requires
 read-u64-requires c κs = search rules
 
-enum-known-why : tie.Need-enum-known-why
+enum-known-why : tie.Need-enum_known-why
 enum-known-why c = search rules
 
-enum-known-offset : tie.Need-enum-known-offset
+enum-known-offset : tie.Need-enum_known-offset
 enum-known-offset c = search rules
 
 add-read-u64 : tie.Need-overflow-add-read-u64
@@ -22,7 +22,7 @@ read-u64-requires-2 c κs = search rules
 enum-known-why-2 : tie.Need-enum-known-why-2
 enum-known-why-2 c = search rules
 
-enum-known-file : tie.Need-enum-known-file
+enum-known-file : tie.Need-enum_known-file
 enum-known-file c = search rules
 
 add-read-u32 : tie.Need-overflow-add-read-u32
@@ -31,13 +31,13 @@ add-read-u32 c = omega (arith, within_u64 _ _ _ _ _ c.before.before.before.read-
 add-read-u32-2 : tie.Need-overflow-add-read-u32-2
 add-read-u32-2 c = omega (arith, within_u64 _ _ _ _ _ c.before.before.before.read-u642.ensures c.before.file.given.1)
 
-read-u32-requires : tie.Need-read-u32-requires
+read-u32-requires : tie.Need-read_u32-requires
 read-u32-requires c κs = search rules
 
 enum-known-why-3 : tie.Need-enum-known-why-3
 enum-known-why-3 c = search rules
 
-enum-known-size : tie.Need-enum-known-size
+enum-known-size : tie.Need-enum_known-size
 enum-known-size c = search rules
 
 add-t22 : tie.Need-overflow-add-t22

@@ -17,7 +17,7 @@ returns c =
     let a = c.before.before.before.before.args in
     wrote_not (handle_bytes a.self) a.buf.now a.at c.before.before.handle-size.result c.before.room.result c.before.before.handle-size.ensures.0 c.before.room.ensures c.if1.true
 
-spell-handle-requires : tie.Need-spell-handle-requires
+spell-handle-requires : tie.Need-spell_handle-requires
 spell-handle-requires c κs =
     let a = c.before.before.before.before.before.args in
     omega (arith, handle-some a.self)
