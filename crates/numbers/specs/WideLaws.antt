@@ -1,5 +1,5 @@
 -- Products of words from their halves, in any base, and why each step of them fits a word.
-use Rattle.std.specs.Prelude.{◌≡◌, ℕ, zero, ◌+◌, ◌-◌, ◌*◌, ◌/◌, ◌%◌, ◌^◌, ◌<◌, ◌≤◌, List, [], ◌∷◌, refl}
+use Rattle.std.specs.Prelude.{◌≡◌, ℕ, zero, ◌+◌, ◌-◌, ◌*◌, ◌/◌, ◌%◌, ◌^◌, ◌<◌, ◌≤◌, [], ◌∷◌, refl}
 use Rattle.std.proofs.Common.{sym, ap, ◌∙◌, subst, le_refl, le_of_lt, le_trans, le_of_eq, lt_of_le_of_lt, lt_of_lt_of_le, add_assoc, add_comm, add-le-add, suc-mul, mul-suc, mul_assoc, mul_comm, mul_left_comm, mul-add, add-mul, mul-le-mul_left, mul-le-mul_right, mod-lt, div-add-mod', add-zero, arith, pow_pos, pow-add, shl_lt, shr_lt, shr-shr, Fits}
 use Rattle.std.proofs.Math.Nat.{add_left_comm, add-lt-add_of_lt_of_le, mul-lt-mul_of_pos_left, div-le_of_le-mul, mod-add-mod, mul-add-mod_self_right, mul-mod_left}
 use Rattle.std.proofs.Math.Arith.{digits_lt, digits_div}

@@ -1,0 +1,13 @@
+-- What is left to spell, laid on what is there, gives the whole spelling laid on what was there.
+use Rattle.std.proofs.Common.{◌≡◌, ◌+◌, length}
+use lib.Seq.{sets}
+use Rattle.numbers.specs.Leb128.{shortest}
+use Rattle.numbers.proofs.spell.spell.Given as goal
+
+abbrev pub invariant-loop-left : goal.invariant-loop-left
+invariant-loop-left l = (sets l.buf l.to (shortest l.left) ≡ sets l.initial.buf l.at (shortest l.x))
+    × (l.to + length (shortest l.left) ≡ l.at + length (shortest l.x))
+    × (length l.buf ≡ length l.initial.buf)
+
+abbrev pub decreases-loop-left : goal.decreases-loop-left
+decreases-loop-left l = l.left
