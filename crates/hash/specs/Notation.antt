@@ -1,6 +1,6 @@
 -- xxHash's description: "Operation notations", and the primes of "XXH3 Algorithm Overview".
 -- X xor Y is `bit_xor X Y`, X | Y is `bit_or X Y`, X >> s is `X / 2 ^ s`, X <<< s is `rotl32 X s`; (u128)x * (u128)y is `x * y`.
-use Rattle.std.specs.Prelude.{ℕ, zero, suc, ◌+◌, ◌-◌, ◌*◌, ◌/◌, ◌%◌, ◌^◌, List, drop}
+use Rattle.std.specs.Prelude.{ℕ, zero, suc, ◌+◌, ◌-◌, ◌*◌, ◌%◌, ◌^◌, List, drop}
 use Rattle.numbers.specs.Le.{num}
 
 -- +, - and *: modular addition, subtraction and multiplication

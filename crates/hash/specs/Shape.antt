@@ -3,7 +3,7 @@ use Rattle.std.specs.Prelude.{ℕ, ◌+◌, ◌-◌, ◌*◌, ◌/◌, ◌%◌, 
 use Rattle.numbers.specs.Le.{num}
 use Rattle.numbers.specs.Pick.{pick}
 use Rattle.numbers.specs.Wide.{bswap}
-use Rattle.hash.specs.Notation.{add64, sub64, mul64, shl64, u64s, PRIME32_2, PRIME64_1, PRIME64_2, PRIME_MX2}
+use Rattle.hash.specs.Notation.{add64, sub64, mul64, shl64, u64s, PRIME32_2, PRIME64_2, PRIME_MX2}
 use Rattle.hash.specs.Secret.{seed, secret, avalanche}
 use Rattle.hash.specs.Medium.{round_inward, chunk_after_128}
 use Rattle.hash.specs.declared.Hash128.{Hash128}

@@ -1,5 +1,5 @@
 -- xxHash's description: "XXH3 Algorithm Description (for small inputs)", XXH3-128.
-use Rattle.std.specs.Prelude.{ℕ, ◌+◌, ◌-◌, ◌*◌, ◌/◌, ◌%◌, ◌^◌, List, length, bit_or, bit_xor, slice_index}
+use Rattle.std.specs.Prelude.{ℕ, ◌-◌, ◌*◌, ◌/◌, ◌%◌, ◌^◌, List, length, bit_or, bit_xor, slice_index}
 use Rattle.numbers.specs.Wide.{rotl32, bswap}
 use Rattle.hash.specs.Notation.{add64, sub64, mul64, shl32, shl64, u32s, u64s, PRIME32_2, PRIME64_1, PRIME64_2, PRIME_MX2}
 use Rattle.hash.specs.Secret.{seed, secret, avalanche, avalanche_XXH64}

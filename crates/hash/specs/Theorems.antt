@@ -2,7 +2,6 @@
 use Rattle.std.specs.Prelude.{◌≡◌, ℕ, zero, suc, ◌/◌, ◌^◌, ◌<◌, List, [], ◌∷◌}
 use Rattle.hash.specs.Notation.{mul64, PRIME32_1}
 use Rattle.hash.specs.XXH3.{xxh3_128}
-use Rattle.hash.specs.declared.Hash128.{Hash128}
 
 -- the input of xxHash's published test vectors: each byte is the top byte of a number, which is multiplied after it; n bytes from the number g on
 unfoldable pub top_bytes : ℕ → ℕ → List ℕ

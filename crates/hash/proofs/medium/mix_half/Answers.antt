@@ -1,0 +1,7 @@
+-- The steps in turn.
+use Rattle.hash.proofs.Chunks.{half_law}
+use Rattle.std.proofs.Common.{rules}
+use Rattle.hash.proofs.medium.mix_half.Goals as goal
+
+pub returns : goal.returns
+returns c = search (rules, half_law)

@@ -1,0 +1,7 @@
+-- The two shifts and the product in turn.
+use Rattle.hash.specs.Secret.{avalanche}
+use Rattle.hash.proofs.words.avalanche.Goals as goal
+
+pub returns : goal.returns
+unfolding avalanche
+returns c = cc

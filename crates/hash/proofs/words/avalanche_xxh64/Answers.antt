@@ -1,0 +1,7 @@
+-- The three shifts and two products in turn.
+use Rattle.hash.specs.Secret.{avalanche_XXH64}
+use Rattle.hash.proofs.words.avalanche_xxh64.Goals as goal
+
+pub returns : goal.returns
+unfolding avalanche_XXH64
+returns c = cc
