@@ -7,8 +7,5 @@ mod Written
 mod Moved
 mod Walking
 mod Short
-mod Locals
-mod Bodies
-mod Holding
 mod Sums
 mod Fields

@@ -1,5 +1,5 @@
 -- A step that is neither end nor 7 moves at least 4 bytes, since each such answer moves past a mark; so bytes left over 4 bound the steps.
-use Prim.Native.Nat.{ℕ, zero, suc, ◌+◌, ◌-◌, ◌*◌, ◌/◌, ◌<◌, ◌≤◌}
+use Prim.Native.Nat.{ℕ, zero, suc, ◌+◌, ◌-◌, ◌*◌, ◌<◌, ◌≤◌}
 use mathlib.Core.Path.{◌≡◌, refl, ◌∙◌}
 use mathlib.Core.List.{List}
 use mathlib.Core.Bool.{Bool, true, false}
@@ -9,7 +9,7 @@ use lib.ListN.{length, drop}
 use lib.Dec.{ltb}
 use Rattle.numbers.specs.Pick.{pick}
 use Rattle.frames.specs.Layout.{blob, meta, header_of, starts, same_sum, header_length}
-use Rattle.frames.specs.Scan.{going, cut_at, reading, frame_of, frame_at, sum_at, checked_of, step_of}
+use Rattle.frames.specs.Scan.{cut_at, reading, frame_of, frame_at, sum_at, checked_of, step_of}
 use Rattle.frames.proofs.ScanLaws.{at_ended, at_cut, checked-end, checked-cut}
 use Rattle.frames.specs.Scans.{after, is_over, over_within}
 use Rattle.frames.specs.Theorems.{Progress, Over}

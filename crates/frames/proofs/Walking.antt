@@ -1,13 +1,12 @@
 -- The scan as one: its bound is never met, since an entry moves at least 4 bytes on inside the file, so it is a step and then the scan from there on.
 use Prim.Native.Nat.{ℕ, zero, suc, ◌+◌, ◌-◌, ◌/◌, ◌<◌, ◌≤◌}
-use mathlib.Core.Path.{◌≡◌, refl, sym, ap, subst, ◌∙◌}
+use mathlib.Core.Path.{◌≡◌, refl, sym, ap, ◌∙◌}
 use mathlib.Core.List.{List, [], ◌∷◌}
-use mathlib.Core.Bool.{true, false}
 use native.Mathlib.Omega.{arith}
 use lib.ListN.{length}
-use Rattle.frames.specs.Scan.{going, step_of}
+use Rattle.frames.specs.Scan.{step_of}
 use Rattle.frames.specs.Scans.{Walk, go_on, walk_in, walk_from, ahead}
-use Rattle.frames.specs.StepLaws.{Whole, whole}
+use Rattle.frames.specs.StepLaws.{whole}
 use Rattle.frames.specs.Theorems.{WalkOn}
 use Rattle.frames.specs.declared.scanner.Scanner.{Scanner}
 use Rattle.frames.specs.declared.scanner.ScanEntry.{ScanEntry}

@@ -1,5 +1,5 @@
 -- A run's buffer is its frames' bytes one after another, then META; so a scan and point reads give the frames back, each by the law of one frame.
-use Prim.Native.Nat.{ℕ, ◌+◌, ◌-◌, ◌<◌, ◌≤◌, ◌^◌}
+use Prim.Native.Nat.{ℕ, ◌+◌, ◌-◌, ◌≤◌}
 use mathlib.Core.Path.{◌≡◌, refl, sym, ap, subst, ◌∙◌}
 use mathlib.Core.List.{List, [], ◌∷◌, ◌++◌, append_assoc, append-nil}
 use mathlib.Core.Bool.{Bool, true, false}
@@ -8,17 +8,17 @@ use native.Mathlib.Nat.{add-zero, zero-add}
 use lib.ListN.{length, drop, length-append, length-drop}
 use lib.Seq.{sets-eq, length-sets, drop_at}
 use Rattle.numbers.specs.Pick.{pick}
-use Rattle.frames.specs.Layout.{meta, header_length, Item, starts}
+use Rattle.frames.specs.Layout.{meta, header_length, starts}
 use Rattle.frames.specs.LayoutLaws.{le-meta}
-use Rattle.frames.specs.Shape.{blob_form}
+use Rattle.frames.specs.Shape.{size_of, shape_of, blob_form}
 use Rattle.frames.specs.Write.{nowhere, end_bytes, report_of}
 use Rattle.frames.specs.Scan.{going, frame_at, step_of}
 use Rattle.frames.proofs.ScanLaws.{at-meta, checked-end}
 use Rattle.frames.specs.Runs.{Call, Typed, Frame, Each, Run, run, all_bytes}
-use Rattle.frames.specs.Ran.{Put, Laid, Ran, grown_by, settled, stated_sum, disk_sum, first_key, last_key}
+use Rattle.frames.specs.Ran.{Put, Laid, Ran, grown_by, stated_sum, disk_sum, first_key, last_key}
 use Rattle.frames.specs.GrownLaws.{blob-sized, grown-items, grown-disk, grown-stated, grown-first, grown-last}
 use Rattle.frames.specs.RunLaws.{ran, ran_offset, ran-items}
-use Rattle.frames.specs.Scans.{Walk, walk_from, walk_of, ahead, ends_at}
+use Rattle.frames.specs.Scans.{walk_from, walk_of, ahead, ends_at}
 use Rattle.frames.specs.Theorems.{entry_for, entries_for, Lies, Found, written, report_for, Bytes, ScanBack, ReadBack, Reports}
 use Rattle.frames.specs.declared.writer.Writer.{Writer}
 use Rattle.frames.specs.declared.writer.Report.{Report}
@@ -96,14 +96,14 @@ gives s id o (f ∷ fs) l h =
     let m : o + (header_length + length f.item.key + length f.item.value + 0) + length (all_bytes blob_form fs)
     ≡ o + length (blob_form.bytes f.item ++ all_bytes blob_form fs) = omega arith in
     walk_entry s (going o) _ (entry_for f) (step s id o f fs l.0 h)
-    ∙ ap (ahead (entry_for f ∷ [])) (gives s id _ fs l.1 (behind s id o f fs l.0 h)
+    ∙ ap (ahead (entry_for f ∷ [])) (gives s id (o + size_of (shape_of blob_form f.item)) fs l.1 (behind s id o f fs l.0 h)
     ∙ ap (λ (x : ℕ). ahead (entries_for fs) (walk_from s (going x))) m)
 
 -- a law of each frame where it lies
 each : (P : Frame → Type 0) (s : List ℕ) → ((id o : ℕ) (f : Frame) (fs : List Frame) → Put id o f → Holds s o (f ∷ fs) → P f)
     → (id o : ℕ) (fs : List Frame) → Laid blob_form id o fs → Holds s o fs → Each P fs
 each P s law id o [] l h = tt
-each P s law id o (f ∷ fs) l h = (law id o f fs l.0 h, each P s law id _ fs l.1 (behind s id o f fs l.0 h))
+each P s law id o (f ∷ fs) l h = (law id o f fs l.0 h, each P s law id (o + size_of (shape_of blob_form f.item)) fs l.1 (behind s id o f fs l.0 h))
 
 -- META where it stands
 end : (s rest : List ℕ) (at : ℕ) → drop at s ≡ meta ++ rest → step_of s (going at) ≡ scanned.End at (record { at = at; ended = true })

@@ -8,9 +8,9 @@ use Rattle.std.proofs.Math.ListN.{length, length-append}
 use Rattle.std.proofs.lemmas.List.Edits.{sets}
 use Rattle.numbers.specs.Pick.{pick}
 use Rattle.frames.specs.Layout.{meta, Item}
-use Rattle.frames.specs.Shape.{item_of, plain_of, Form, shape_of, size_of}
+use Rattle.frames.specs.Shape.{item_of, plain_of, Form, shape_of}
 use Rattle.frames.specs.Write.{targeted, report_of, judged, grown, pointer_of, accepted_as, end_bytes, closed_as, answer_of, bytes_of}
-use Rattle.frames.specs.Write.{answered, append_answer, append_bytes, finish_answer, closed_bytes, finish_bytes}
+use Rattle.frames.specs.Write.{answered, append_bytes, finish_answer, closed_bytes, finish_bytes}
 use Rattle.frames.specs.WriteLaws.{Taken, taken, judge_finished, some_number}
 use Rattle.frames.specs.Runs.{Call, append, append_raw, use_target, finish, TypedCall, Frame, Run, append_run, finish_run, appending, called, all_bytes}
 use Rattle.frames.specs.declared.writer.Writer.{Writer}
@@ -23,7 +23,7 @@ use Rattle.frames.specs.declared.writer.AppendRefusal.TheVariants.{Finished}
 use Rattle.frames.specs.declared.writer.Appended.TheVariants as appended
 use Rattle.frames.specs.declared.writer.Closed.{Closed}
 use Rattle.frames.specs.declared.writer.Closed.TheVariants as closed
-use Rattle.frames.specs.Ran.{grown_by, settled, Put, Ran, Still}
+use Rattle.frames.specs.Ran.{grown_by, settled, Ran, Still}
 use Rattle.frames.specs.GrownLaws.{Sized}
 
 length-end : (b : Bool) → length (end_bytes b) ≤ 4

@@ -1,5 +1,5 @@
 -- What a run comes to, from any unfinished writer and whatever the form of frame.
-use Rattle.std.specs.Prelude.{ℕ, ◌+◌, ◌<◌, ◌≤◌, ◌≡◌, Bool, true, false}
+use Rattle.std.specs.Prelude.{ℕ, ◌+◌, ◌≤◌, ◌≡◌, Bool, true, false}
 use Rattle.std.proofs.Math.Path.{refl, ap, ap₂, subst}
 use Rattle.std.proofs.Common.{sym, ◌∙◌}
 use mathlib.Core.List.{List, [], ◌∷◌, ◌++◌, append_assoc, append-nil}
@@ -8,7 +8,6 @@ use Rattle.std.proofs.Math.ListN.{length, length-append}
 use Rattle.std.proofs.Math.Seq.{sets, length-sets}
 use Rattle.numbers.specs.Pick.{pick}
 use Rattle.numbers.specs.LeLaws.{sets-append}
-use Rattle.frames.specs.Layout.{Item}
 use Rattle.frames.specs.Shape.{Form, shape_of, size_of}
 use Rattle.frames.specs.Write.{targeted, report_of, end_bytes}
 use Rattle.frames.specs.Runs.{Call, Typed, Frame, Run, called, and_then, run_by, all_bytes}
@@ -16,7 +15,6 @@ use Rattle.frames.specs.Ran.{grown_by, settled, stated_sum, disk_sum, Laid, Coun
 use Rattle.frames.specs.GrownLaws.{Sized, all_append, grown-append, grown-settled, grown-id, grown-items, grown-disk, grown-stated, grown-offset}
 use Rattle.frames.specs.CallLaws.{unchanged, ran_call, still_call}
 use Rattle.frames.specs.declared.writer.Writer.{Writer}
-use Rattle.frames.specs.declared.writer.Report.{Report}
 
 still_then : (w : Writer) (s : List ℕ) (a b : Run) → Still w s a → Still a.writer a.buffer b → Still w s (and_then a b)
 still_then w s a b p q = record {

@@ -2,19 +2,17 @@
 use Rattle.std.specs.Prelude.{ℕ, ◌+◌, ◌-◌, ◌≤◌, refl, Bool, length, drop, ltb, eqb}
 use Rattle.std.proofs.Math.Path.{◌≡◌, sym, ap}
 use Rattle.std.proofs.Common.{ap₂, ◌∙◌, arith, ltb-false, eqb-true, length-drop, drop-drop, length-take-le}
-use mathlib.Core.List.{List, [], ◌∷◌, ◌++◌, append_assoc}
+use mathlib.Core.List.{List, [], ◌∷◌, ◌++◌}
 use Rattle.std.proofs.Math.Bool.{true, false}
 use Rattle.std.proofs.Math.ListN.{take}
 use Rattle.std.proofs.Math.Seq.{take-add}
 use Rattle.hash.specs.declared.Hash128.{Hash128}
-use Rattle.hash.specs.XXH3.{xxh3_128}
 use Rattle.numbers.specs.Pick.{pick}
 use Rattle.numbers.specs.Le.{le, num, Octets}
 use Rattle.numbers.specs.LeLaws.{le-num, octets_drop}
 use Rattle.frames.specs.Layout.{blob, meta, header_length, header_bytes, header_of, header_for, frame_bytes, starts, same_sum}
 use Rattle.frames.specs.Scan.{going, reading, entry_of, frame_of, frame_at, part_at, sum_at, item_at, checked_of, step_of}
 use Rattle.frames.specs.declared.header.Header.{Header}
-use Rattle.frames.specs.declared.place.Place.{Place}
 use Rattle.frames.specs.declared.scanner.Scanner.{Scanner}
 use Rattle.frames.specs.declared.scanner.ScanEntry.{ScanEntry}
 use Rattle.frames.specs.declared.scanner.FrameRefusal.{FrameRefusal}
