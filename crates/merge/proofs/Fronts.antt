@@ -34,17 +34,17 @@ module _ (image : List ℕ) (i : ℕ) (p : Part) (ps : List Part) (ls : List (Li
   -- the lower part has ended
   past-none : (f : Foremost) → Reads image i p [] → Front image (suc i) ps ls f → Front image i (p ∷ ps) ([] ∷ ls) (first image none f)
   unfolding first
-  past-none f r (blank e) = blank (λ j. elim j [ zero ↦ refl | suc k ↦ e k ])
+  past-none f r (blank e) = blank (λ j. elim j as (λ k. get_or ([] ∷ ls) k [] ≡ []) [ zero ↦ refl | suc k ↦ e k ])
   past-none f r (taken {x} {k} {l} j g n least t) =
       let z : suc i + j ≡ i + suc j = omega arith in
-      taken (suc j) g (n ∙ z) (λ m y s. elim m [ zero ↦ λ e. absurd (no_front y s e) | suc h ↦ least h y s ]) (part r t)
+      taken (suc j) g (n ∙ z) (λ m y s. elim m as (λ k. get_or ([] ∷ ls) k [] ≡ y ∷ s → Leq image x y) [ zero ↦ λ e. absurd (no_front y s e) | suc h ↦ least h y s ]) (part r t)
 
   -- the lower part has an entry
   module _ (e : ScanEntry) (n : Scanner) (l : List MergeEntry) (q : scan_at image p ≡ scanned.Entry e n) (r : Reads image i (moved n.at p) l) (all : ReadsAll image (suc i) ps ls) where
     this_one : ((m : ℕ) (y : MergeEntry) (s : List MergeEntry) → get_or ls m [] ≡ y ∷ s → Leq image (entry_of i p e) y) → Front image i (p ∷ ps) ((entry_of i p e ∷ l) ∷ ls) (some (entry_of i p e) n.at)
     this_one least =
         let z : i ≡ i + 0 = omega arith in
-        taken 0 refl z (λ m y s. elim m [ zero ↦ λ g. let d : entry_of i p e ≡ y = cc in subst (Leq image (entry_of i p e)) d (leq_refl image (entry_of i p e)) | suc h ↦ least h y s ]) (part r all)
+        taken 0 refl z (λ m y s. elim m as (λ k. get_or ((entry_of i p e ∷ l) ∷ ls) k [] ≡ y ∷ s → Leq image (entry_of i p e) y) [ zero ↦ λ g. let d : entry_of i p e ≡ y = cc in subst (Leq image (entry_of i p e)) d (leq_refl image (entry_of i p e)) | suc h ↦ least h y s ]) (part r all)
 
     past_by : (x : MergeEntry) (k : ℕ) (b : Bool) → ahead image (entry_of i p e) x ≡ b → Front image (suc i) ps ls (some x k)
         → Front image i (p ∷ ps) ((entry_of i p e ∷ l) ∷ ls) (pick b (some (entry_of i p e) n.at) (some x k))
@@ -53,7 +53,7 @@ module _ (image : List ℕ) (i : ℕ) (p : Part) (ps : List Part) (ls : List (Li
     past_by x k false a (taken j g m least t) =
         let z : suc i + j ≡ i + suc j = omega arith in
         taken (suc j) g (m ∙ z)
-        (λ h y s. elim h [ zero ↦ λ d. let c : entry_of i p e ≡ y = cc in subst (Leq image x) c (behind_leq image x (entry_of i p e) a) | suc v ↦ least v y s ])
+        (λ h y s. elim h as (λ k. get_or ((entry_of i p e ∷ l) ∷ ls) k [] ≡ y ∷ s → Leq image x y) [ zero ↦ λ d. let c : entry_of i p e ≡ y = cc in subst (Leq image x) c (behind_leq image x (entry_of i p e) a) | suc v ↦ least v y s ])
         (part (found q r) t)
 
     past-some : (f : Foremost) → Front image (suc i) ps ls f → Front image i (p ∷ ps) ((entry_of i p e ∷ l) ∷ ls) (first image (some (entry_of i p e) n.at) f)

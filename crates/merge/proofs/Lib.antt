@@ -1,5 +1,4 @@
 -- What belongs to no one function: the theorems, what a `let .. else` knows, and laws over plain variables that the proofs cite.
-pub mod Answers
 pub mod Fronts
 pub mod Merges
 pub mod Pieces

@@ -101,11 +101,31 @@ module _ (image : List ℕ) (x y : MergeEntry) where
   unfolding ahead
   behind_leq h = behind-by _ (view (part_at image y.key) (part_at image x.key)) h
 
+below_apart : {a b c d : List ℕ} → Below a b → Below c d → a ≡ d → b ≡ c → ⊥
+below_apart short short p q = cc
+below_apart short (here h) p q = cc
+below_apart short (later s) p q = cc
+below_apart (here h) short p q = cc
+below_apart (here {x = x} {y = y} h) (here {x = x'} {y = y'} g) p q =
+    let e : x ≡ y' = cc in
+    let f : y ≡ x' = cc in
+    omega arith
+below_apart (here {x = x} {y = y} h) (later {x = x'} s) p q =
+    let e : x ≡ x' = cc in
+    let f : y ≡ x' = cc in
+    omega arith
+below_apart (later r) short p q = cc
+below_apart (later {x = x} r) (here {x = x'} {y = y'} g) p q =
+    let e : x ≡ y' = cc in
+    let f : x ≡ x' = cc in
+    omega arith
+below_apart (later {a = a} {b = b} r) (later {a = a'} {b = b'} s) p q =
+    let e : a ≡ b' = cc in
+    let f : b ≡ a' = cc in
+    below_apart r s e f
+
 below_irreflexive : {a b : List ℕ} → Below a b → Below b a → ⊥
-below_irreflexive (here h) (here g) = omega arith
-below_irreflexive (here h) (later s) = omega arith
-below_irreflexive (later r) (here g) = omega arith
-below_irreflexive (later r) (later s) = below_irreflexive r s
+below_irreflexive r s = below_apart r s refl refl
 
 below-same : {a b : List ℕ} → a ≡ b → Below a b → ⊥
 below-same {a} {b} e r = below_irreflexive r (subst (λ (k : List ℕ). Below k a) e (subst (Below a) (sym e) r))
