@@ -34,9 +34,9 @@ pub extern "C" fn pd_drop(
     size: u32,
     length: u32,
 ) -> u64
-    ensures { (result ≡ counted_number (dropped_of (map_of count.old (record { ids = ids.entry.now; frames = frames.old; stated = stated.old; disk = disk.old })) (pointer_of file size length)).answer)
-        × (map_of count.new (record { ids = ids.exit.now; frames = frames.new; stated = stated.new; disk = disk.new })
-        ≡ (dropped_of (map_of count.old (record { ids = ids.entry.now; frames = frames.old; stated = stated.old; disk = disk.old })) (pointer_of file size length)).map) }
+    ensures { (result ≡ counted_number (dropped_of (map_of count.old (record { ids = ids.old; frames = frames.old; stated = stated.old; disk = disk.old })) (pointer_of file size length)).answer)
+        × (map_of count.new (record { ids = ids.new; frames = frames.new; stated = stated.new; disk = disk.new })
+        ≡ (dropped_of (map_of count.old (record { ids = ids.old; frames = frames.old; stated = stated.old; disk = disk.old })) (pointer_of file size length)).map) }
 {
     let handle = ValueHandle {
         offset: 0,
@@ -135,11 +135,11 @@ pub extern "C" fn pd_batch(
     rows: &[u64],
 ) -> u64
     ensures { (result ≡ (batched_of
-        (map_of count.old (record { ids = ids.entry.now; frames = frames.old; stated = stated.old; disk = disk.old }))
+        (map_of count.old (record { ids = ids.old; frames = frames.old; stated = stated.old; disk = disk.old }))
         rows.now).number)
-        × (map_of count.new (record { ids = ids.exit.now; frames = frames.new; stated = stated.new; disk = disk.new })
+        × (map_of count.new (record { ids = ids.new; frames = frames.new; stated = stated.new; disk = disk.new })
         ≡ (batched_of
-        (map_of count.old (record { ids = ids.entry.now; frames = frames.old; stated = stated.old; disk = disk.old }))
+        (map_of count.old (record { ids = ids.old; frames = frames.old; stated = stated.old; disk = disk.old }))
         rows.now).map) }
 {
     let why = rows_refused(rows);
@@ -192,8 +192,8 @@ pub extern "C" fn pd_store<'a>(
     disk: &'a [u64; 64],
     buf: &mut [u8],
 ) -> u64
-    ensures { (result ≡ stored_number (store_answer (map_of count (record { ids = ids.entry.now; frames = frames.now; stated = stated.now; disk = disk.now })) buf.old))
-        × (buf.new ≡ store_bytes (map_of count (record { ids = ids.entry.now; frames = frames.now; stated = stated.now; disk = disk.now })) buf.old) }
+    ensures { (result ≡ stored_number (store_answer (map_of count (record { ids = ids.now; frames = frames.now; stated = stated.now; disk = disk.now })) buf.old))
+        × (buf.new ≡ store_bytes (map_of count (record { ids = ids.now; frames = frames.now; stated = stated.now; disk = disk.now })) buf.old) }
 {
     let a = store_columns(count, ids, frames, stated, disk, buf);
     stored_number(a)
@@ -219,7 +219,7 @@ pub extern "C" fn pd_load(
     disk: &mut [u64; 64],
 ) -> u64
     ensures { (result ≡ loaded_number (load_of s.now).answer)
-        × (map_of count.new (record { ids = ids.exit.now; frames = frames.new; stated = stated.new; disk = disk.new }) ≡ (load_of s.now).map) }
+        × (map_of count.new (record { ids = ids.new; frames = frames.new; stated = stated.new; disk = disk.new }) ≡ (load_of s.now).map) }
 {
     let r = FragmentationMap::load(s);
     let m = r.map;

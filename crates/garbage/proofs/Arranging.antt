@@ -1,8 +1,8 @@
 -- Arrangements of maps agree with arrangements of lists of entries; there the order and the grouping make no difference.
-use Prim.Native.Nat.{ℕ, zero, suc, ◌+◌, ◌≤◌, ◌<◌}
+use Prim.Native.Nat.{ℕ, ◌≤◌}
 use mathlib.Core.Path.{◌≡◌, refl, sym, ◌∙◌, ap, ap₂, subst}
-use mathlib.Core.List.{List, [], ◌∷◌, ◌++◌, map, map-append, append-nil}
-use mathlib.Core.Bool.{Bool, true, false, ◌&&◌}
+use mathlib.Core.List.{List, [], ◌∷◌, ◌++◌, map-append, append-nil}
+use mathlib.Core.Bool.{true}
 use native.Mathlib.Omega.{arith}
 use lib.ListN.{length}
 use lib.Dec.{leb}
@@ -26,7 +26,7 @@ use Rattle.garbage.specs.Arrangements.{Ran, ran, refused, onward, by_answer, by_
 use Rattle.garbage.proofs.Bools.{both}
 use Rattle.garbage.proofs.Fits.{made-is, judged-made, none-fit}
 use Rattle.garbage.proofs.Sound.{well_ascending}
-use Rattle.garbage.proofs.Holding.{rows_with, rows_zero}
+use Rattle.garbage.proofs.Holding.{rows_with}
 use Rattle.garbage.proofs.Turning.{add_in_order}
 use Rattle.garbage.proofs.Summing.{all_none, all_append, all_swap, all-all, fit_all, long-all, order-all, turns_judged, turns_made}
 use Rattle.garbage.proofs.Tallying.{ones}

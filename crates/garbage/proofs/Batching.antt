@@ -1,23 +1,21 @@
 -- A batch as it is walked is the batch as it is defined: the drops one after another, or the map as it came in.
-use Prim.Native.Nat.{ℕ, zero, suc, ◌+◌, ◌≤◌, ◌<◌}
-use mathlib.Core.Path.{◌≡◌, refl, sym, ◌∙◌, ap, ap₂}
-use mathlib.Core.List.{List, [], ◌∷◌, ◌++◌, map}
-use mathlib.Core.Bool.{Bool, true, false, ◌&&◌}
+use Prim.Native.Nat.{ℕ, ◌≤◌}
+use mathlib.Core.Path.{◌≡◌, refl, sym, ◌∙◌, ap}
+use mathlib.Core.List.{List, [], ◌∷◌, map}
+use mathlib.Core.Bool.{true, false}
 use native.Mathlib.Omega.{arith}
 use lib.ListN.{length}
-use lib.Dec.{leb, eqb}
-use borrow.Author.Tests.{le-leb, lt-leb, leb-true, leb-false}
+use lib.Dec.{leb}
+use borrow.Author.Tests.{le-leb}
 use Rattle.numbers.specs.Pick.{pick}
 use Rattle.numbers.specs.declared.handle.BlobIndirection.{BlobIndirection}
 use Rattle.garbage.specs.declared.map.FragmentationMap.{FragmentationMap}
-use Rattle.garbage.specs.declared.map.CountRefusal.TheVariants.{MapFull, SumTooBig}
-use Rattle.garbage.specs.declared.map.Counted.TheVariants.{Done, Refused}
 use Rattle.garbage.specs.declared.dropped.Dropped.{Dropped}
 use Rattle.garbage.specs.Entries.{Entry, plus, added, ascending_from, all_fit, judged, Outcome, made, sumTooBig, mapFull}
-use Rattle.garbage.specs.Maps.{Columns, columns_of, map_of, rows, entries_of, holding, well_formed}
+use Rattle.garbage.specs.Maps.{Columns, columns_of, map_of, entries_of, holding, well_formed}
 use Rattle.garbage.specs.Drops.{one, answered, dropped_of}
 use Rattle.garbage.specs.Batch.{afterwards, in_turn, batch_of, going_on, one_by_one}
-use Rattle.garbage.specs.Columns.{Whole, Told, Fine, State, state, holds, coded, fold_of, settled, fold_pointers, begin_of, finished, walked_of}
+use Rattle.garbage.specs.Columns.{turn_of, Whole, Told, Fine, State, state, holds, coded, fold_of, settled, fold_pointers, begin_of, finished, walked_of}
 use Rattle.garbage.proofs.Bools.{by_test}
 use Rattle.garbage.proofs.Fits.{made-is}
 use Rattle.garbage.proofs.Slots.{rows-length}
@@ -31,7 +29,7 @@ use Rattle.garbage.specs.Theorems.{BatchDrops}
 folds : (t : State) (ps : List BlobIndirection) → fold_pointers t ps ≡ fold_of t (map one ps)
 unfolding fold_pointers fold_of
 folds t [] = refl
-folds t (p ∷ ps) = folds _ ps
+folds t (p ∷ ps) = folds (turn_of t (one p)) ps
 
 few : (es l r : List Entry) → length l ≤ 64 → in_turn es l ≡ made r → length r ≤ 64
 unfolding in_turn

@@ -1,15 +1,14 @@
 -- What a map holds of an id, at the place that a search finds.
-use Prim.Native.Nat.{ℕ, suc, ◌+◌, ◌≤◌, ◌<◌}
+use Prim.Native.Nat.{ℕ, suc, ◌≤◌, ◌<◌}
 use mathlib.Core.Path.{◌≡◌, refl, sym, ◌∙◌, ap}
 use mathlib.Core.List.{List, [], ◌∷◌}
-use mathlib.Core.Bool.{Bool, true, false, ◌&&◌}
+use mathlib.Core.Bool.{Bool, true, false}
 use native.Mathlib.Omega.{arith}
 use lib.ListN.{length, get_or, take}
-use lib.Dec.{ltb, leb, eqb}
+use lib.Dec.{ltb, leb}
 use borrow.Author.Tests.{ltb-true, ltb-false, leb-true, eq-eqb, ne_eqb}
 use Rattle.numbers.specs.Pick.{pick}
-use Rattle.garbage.specs.declared.map.Lookup.{Lookup}
-use Rattle.garbage.specs.declared.map.Lookup.TheVariants.{Found, NoEntry, Refused}
+use Rattle.garbage.specs.declared.map.Lookup.TheVariants.{Found, NoEntry}
 use Rattle.garbage.specs.Entries.{Entry, ascending_from}
 use Rattle.garbage.specs.Maps.{Columns, entry_at, rows}
 use Rattle.garbage.specs.Lookups.{found}

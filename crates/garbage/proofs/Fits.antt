@@ -1,15 +1,15 @@
 -- Which totals fit their widths: of one entry, of a list, of a list with an entry put in or grown.
 use Prim.Native.Nat.{ℕ, zero, suc, ◌+◌, ◌-◌, ◌≤◌, ◌<◌, ◌^◌}
-use mathlib.Core.Path.{◌≡◌, refl, sym, ◌∙◌, ap, ap₂}
-use mathlib.Core.List.{List, [], ◌∷◌, ◌++◌}
+use mathlib.Core.Path.{◌≡◌, refl, ◌∙◌, ap, ap₂}
+use mathlib.Core.List.{List, [], ◌∷◌}
 use mathlib.Core.Bool.{Bool, true, false, ◌&&◌}
 use native.Mathlib.Omega.{arith}
-use lib.ListN.{length, take, drop, get_or, set, take-append-drop}
+use lib.ListN.{length, set}
 use lib.Dec.{ltb, leb}
 use borrow.Author.Tests.{ltb-true, lt-ltb, le-ltb, le-leb, lt-leb, leb-true}
 use Rattle.numbers.specs.Pick.{pick}
-use Rattle.garbage.specs.Entries.{Entry, plus, fits, all_fit, Outcome, made, sumTooBig, mapFull, judged}
-use Rattle.garbage.proofs.Bools.{and_l, and_r, both, and_true, by_test}
+use Rattle.garbage.specs.Entries.{Entry, plus, fits, all_fit, made, sumTooBig, mapFull, judged}
+use Rattle.garbage.proofs.Bools.{and_l, and_r, both, and_true}
 use Rattle.garbage.proofs.Insert.{put}
 
 pub fits_all : (e : Entry) → e.frames < 2 ^ 32 → e.stated < 2 ^ 64 → e.disk < 2 ^ 64 → fits e ≡ true

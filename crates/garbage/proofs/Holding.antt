@@ -2,16 +2,16 @@
 use Prim.Native.Nat.{ℕ, zero, suc, ◌+◌, ◌-◌, ◌≤◌, ◌<◌}
 use mathlib.Core.Path.{◌≡◌, refl, sym, ◌∙◌, ap, ap₂}
 use mathlib.Core.List.{List, [], ◌∷◌, ◌++◌, map, map-append}
-use mathlib.Core.Bool.{Bool, true, false, ◌&&◌}
+use mathlib.Core.Bool.{true}
 use native.Mathlib.Omega.{arith}
 use native.Mathlib.Numerals.{add-one}
 use lib.ListN.{length, take, drop, get_or, set, length-map, length-append, length-drop, take-append-drop, get_or-append, get_or-map}
 use lib.Seq.{drop-append-add, drop-drop, ext_get_or, take_at, drop-cons, set_at, append_snoc}
 use Rattle.garbage.specs.Entries.{Entry, ascending_from, all_fit}
 use Rattle.garbage.specs.Maps.{Columns, entry_at, rows, with_entries}
-use Rattle.garbage.specs.Columns.{Whole, Rising, Ready, written, State, state, holds, rising_from}
+use Rattle.garbage.specs.Columns.{Whole, Rising, Ready, written, state, holds, rising_from}
 use Rattle.garbage.proofs.Added.{no_entry, ids_of}
-use Rattle.garbage.proofs.Slots.{rows-length, row_at, column, columns_are, state-is, ascending_is, ascending_held}
+use Rattle.garbage.proofs.Slots.{rows-length, row_at, column, columns_are, state-is, ascending_is}
 
 entry-is : {a a' b b' x x' y y' : ℕ} → a ≡ a' → b ≡ b' → x ≡ x' → y ≡ y' → ◌≡◌ {A = Entry} (record { id = a; frames = b; stated = x; disk = y }) (record { id = a'; frames = b'; stated = x'; disk = y' })
 entry-is a b x y = cc

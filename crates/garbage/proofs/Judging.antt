@@ -1,18 +1,16 @@
 -- A file's own drops decide whether it is dead.
-use Prim.Native.Nat.{ℕ, zero, suc, ◌+◌, ◌-◌, ◌*◌, ◌≤◌, ◌<◌, ◌^◌}
+use Prim.Native.Nat.{ℕ, ◌+◌, ◌≤◌}
 use mathlib.Core.Path.{◌≡◌, refl, sym, ◌∙◌, ap, ap₂}
-use mathlib.Core.List.{List, [], ◌∷◌, ◌++◌, append_assoc, append-nil}
+use mathlib.Core.List.{List, [], ◌∷◌, ◌++◌, append-nil}
 use mathlib.Core.Bool.{Bool, true, false, ◌&&◌, ◌||◌}
 use native.Mathlib.Omega.{arith}
-use lib.ListN.{length}
-use lib.Dec.{leb, eqb}
+use lib.Dec.{eqb}
 use borrow.Author.Tests.{eq-eqb, ne_eqb}
 use Rattle.numbers.specs.Pick.{pick}
 use Rattle.numbers.specs.declared.handle.BlobIndirection.{BlobIndirection}
-use Rattle.garbage.specs.declared.verdict.DeadVerdict.{DeadVerdict}
 use Rattle.garbage.specs.declared.verdict.DeadVerdict.TheVariants.{Dead, Wanted, NoEntry}
 use Rattle.garbage.specs.Verdicts.{dead_by}
-use Rattle.garbage.specs.Tallies.{of_file, stated_in, tally, Typed}
+use Rattle.garbage.specs.Tallies.{of_file, stated_in, tally}
 use Rattle.garbage.specs.Files.{Frame, File, gone_of, all_gone, stated_of, Own, Finished, AllFinished, Apart, Distinct, In, here, there, some_gone, heavy_gone}
 use Rattle.garbage.proofs.Bools.{same_or}
 use Rattle.garbage.proofs.Tallying.{of_own, of_other, of_none, of_append}
@@ -44,11 +42,13 @@ apart_none id (f ∷ fs) w a =
     ∙ ap₂ (λ (x y : List BlobIndirection). x ++ y) (other_none id f.id f.frames a.0 w.0.own) (apart_none id fs w.1 a.1)
 
 apart_in : (id : ℕ) (f : File) (fs : List File) → Apart id fs → In f fs → f.id ≡ id → ⊥
+apart_in id f [] a x = elim x [ ]
 apart_in id f (g ∷ fs) a here = a.0
 apart_in id f (g ∷ fs) a (there i) = apart_in id f fs a.1 i
 
 pub own_drops : (f : File) (fs : List File) → AllFinished fs → Distinct fs → In f fs → of_file f.id (all_gone fs) ≡ gone_of f.frames
 unfolding all_gone
+own_drops f [] w d x = elim x [ ]
 own_drops f (g ∷ fs) w d here =
     of_append f.id (gone_of f.frames) (all_gone fs)
     ∙ ap₂ (λ (x y : List BlobIndirection). x ++ y) (own-all f.id f.frames w.0.own) (apart_none f.id fs w.1 d.0)
@@ -58,6 +58,7 @@ own_drops f (g ∷ fs) w d (there i) =
     ∙ ap₂ (λ (x y : List BlobIndirection). x ++ y) (other_none f.id g.id g.frames (λ e. apart_in g.id f fs d.0 i (sym e)) w.0.own) (own_drops f fs w.1 d.1 i)
 
 pub finished_in : (f : File) (fs : List File) → AllFinished fs → In f fs → Finished f
+finished_in f [] w x = elim x [ ]
 finished_in f (g ∷ fs) w here = w.0
 finished_in f (g ∷ fs) w (there i) = finished_in f fs w.1 i
 

@@ -4,13 +4,12 @@ use mathlib.Core.Path.{◌≡◌, refl, sym, ◌∙◌, ap, ap₂}
 use mathlib.Core.List.{List, [], ◌∷◌, ◌++◌}
 use mathlib.Core.Bool.{Bool, true, false}
 use native.Mathlib.Omega.{arith}
-use native.Mathlib.Numerals.{add-one}
 use lib.ListN.{length, get_or, length-append}
 use Rattle.numbers.specs.Pick.{pick}
 use Rattle.garbage.specs.Entries.{Entry}
-use Rattle.garbage.specs.Maps.{Columns, entry_at, rows, with_entries}
+use Rattle.garbage.specs.Maps.{Columns, entry_at, rows}
 use Rattle.garbage.specs.Merges.{listed_in, kept_of, disk_sum}
-use Rattle.garbage.specs.Columns.{Whole, State, state, holds, kept_in, written}
+use Rattle.garbage.specs.Columns.{Whole, State, state, holds, kept_in}
 use Rattle.garbage.proofs.Slots.{rows-length}
 use Rattle.garbage.proofs.Sound.{cols}
 use Rattle.garbage.proofs.Holding.{written-past, rows_snoc, rows_zero, rows_open, rows_out}

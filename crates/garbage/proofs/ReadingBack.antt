@@ -2,27 +2,25 @@
 use Prim.Native.Nat.{ℕ, zero, suc, ◌+◌, ◌-◌, ◌*◌, ◌≤◌, ◌<◌, ◌^◌}
 use mathlib.Core.Path.{◌≡◌, refl, sym, ◌∙◌, ap, ap₂}
 use mathlib.Core.List.{List, [], ◌∷◌, ◌++◌, append_assoc, append-nil}
-use mathlib.Core.Bool.{Bool, true, false, ◌&&◌}
+use mathlib.Core.Bool.{true}
 use native.Mathlib.Omega.{arith}
 use lib.ListN.{length, drop, get_or, length-append}
 use lib.Seq.{drop_at, drop-drop}
-use lib.Dec.{ltb, leb}
+use lib.Dec.{leb}
 use borrow.Author.Tests.{le-ltb, leb-true}
 use Rattle.numbers.specs.Pick.{pick}
 use Rattle.numbers.specs.Le.{le, num}
 use Rattle.numbers.specs.LeLaws.{length-le, num-le}
 use Rattle.garbage.specs.declared.map.FragmentationMap.{FragmentationMap}
 use Rattle.garbage.specs.declared.stored.LoadAnswer.TheVariants.{Used}
-use Rattle.garbage.specs.declared.stored.Loaded.{Loaded}
 use Rattle.garbage.specs.Entries.{Entry, ascending_from, all_fit}
 use Rattle.garbage.specs.Maps.{Columns, columns_of, entry_at, rows, entries_of, holding, well_formed, empty_map}
-use Rattle.garbage.specs.Stored.{entry_bytes, entries_bytes, stored_form, entry_in, entries_in, latter, instead, instead_all, some_loaded, load_of}
+use Rattle.garbage.specs.Stored.{entry_bytes, entries_bytes, stored_form, entry_in, entries_in, latter, instead, instead_all, load_of}
 use Rattle.garbage.proofs.Bools.{and_l, and_r}
 use Rattle.garbage.proofs.Added.{add-past, add_none}
 use Rattle.garbage.proofs.Fits.{fits_each, fit-head, fit-tail}
 use Rattle.garbage.proofs.Sound.{well-few, well_ascending}
-use Rattle.garbage.proofs.Slots.{rows-length}
-use Rattle.garbage.proofs.Storing.{length-entry, length-entries, length-stored}
+use Rattle.garbage.proofs.Storing.{length-entry, length-stored}
 
 entry-is : {a a' b b' x x' y y' : ℕ} → a ≡ a' → b ≡ b' → x ≡ x' → y ≡ y' → ◌≡◌ {A = Entry} (record { id = a; frames = b; stated = x; disk = y }) (record { id = a'; frames = b'; stated = x'; disk = y' })
 entry-is a b x y = cc

@@ -1,20 +1,20 @@
 -- A number to its 24 leading bits, over the number of bits dropped.
-use Prim.Native.Nat.{ℕ, zero, suc, ◌+◌, ◌-◌, ◌*◌, ◌/◌, ◌%◌, ◌^◌, ◌≤◌, ◌<◌, compare, Ordering}
-use mathlib.Core.Path.{◌≡◌, refl, sym, ◌∙◌, ap, subst}
+use Prim.Native.Nat.{ℕ, suc, ◌+◌, ◌*◌, ◌/◌, ◌%◌, ◌^◌, ◌≤◌, ◌<◌, compare, Ordering}
+use mathlib.Core.Path.{◌≡◌, refl, sym, ◌∙◌, subst}
 use mathlib.Core.Logic.{◌⊎◌, inl, inr, ⊎_elim}
 use mathlib.Core.Bool.{Bool, true, false, not}
 use native.Mathlib.Omega.{arith}
-use native.Mathlib.Nat.{one-mul, mul-one, mod-lt, mul_comm, div-one, lt_of_lt_of_le, lt_of_le_of_lt, le_trans, le-div_iff_mul-le, eq-zero-or-pos, div-mul-le_self, mul-le-mul_left}
+use native.Mathlib.Nat.{one-mul, mod-lt, lt_of_lt_of_le, le_trans, le-div_iff_mul-le, eq-zero-or-pos, div-mul-le_self, mul-le-mul_left}
 use native.Mathlib.Numerals.{add-one}
-use lib.Dec.{T, leb, eqb, is_le, compare_is_eq, leb→le, le→leb, nleb→lt, eqb→eq}
+use lib.Dec.{T, leb, is_le, compare_is_eq, leb→le, le→leb, nleb→lt, eqb→eq}
 use borrow.Author.Tests.{eq-eqb}
 use lib.Pow.{pow_pos, pow_mono, shl_exact}
 use lib.Count.{count_leading_zeros, leading_of_zero, leading_top}
 use lib.IntN.{pos}
-use lib.Ieee.{size, nearest, binary32, in_float}
+use lib.Ieee.{size, binary32, in_float}
 use lib.Ieee.Digits.{size-lt, size-le, size_reaches}
 use lib.Ieee.Fits.{kept-lt, nearest-le}
-use lib.Ieee.Nearest.{closest, nearest-ge}
+use lib.Ieee.Nearest.{nearest-ge}
 use Rattle.garbage.specs.Ratio.{lost, rounded}
 
 pub le_or_gt : (a b : ℕ) → (a ≤ b) ⊎ (b < a)
@@ -96,6 +96,6 @@ one_more_lem x u p h l =
     let two : 2 ≤ u = omega arith in
     omega (arith, div-mul-le_self x u, mul-le-mul_left (x / u) two)
 
-pub in_float : (n : ℕ) → n ≤ 2 ^ 24 → T (in_float binary32 (pos n))
+pub in_float_lem : (n : ℕ) → n ≤ 2 ^ 24 → T (in_float binary32 (pos n))
 unfolding in_float
-in_float n h = le→leb n (2 ^ 24) h
+in_float_lem n h = le→leb n (2 ^ 24) h

@@ -1,21 +1,21 @@
 -- A number rounded in integers and scaled by two products is the number rounded to binary32.
-use Prim.Native.Nat.{ℕ, zero, suc, ◌+◌, ◌-◌, ◌*◌, ◌/◌, ◌%◌, ◌^◌, ◌≤◌, ◌<◌}
-use mathlib.Core.Path.{◌≡◌, refl, sym, ◌∙◌, ap, ap₂, subst}
-use mathlib.Core.Logic.{◌⊎◌, inl, inr, ⊎_elim}
-use mathlib.Core.Bool.{Bool, true, false}
+use Prim.Native.Nat.{ℕ, suc, ◌+◌, ◌-◌, ◌*◌, ◌/◌, ◌^◌, ◌≤◌, ◌<◌}
+use mathlib.Core.Path.{◌≡◌, refl, sym, ◌∙◌, ap, subst}
+use mathlib.Core.Logic.{⊎_elim}
+use mathlib.Core.Bool.{false}
 use native.Mathlib.Omega.{arith}
-use native.Mathlib.Nat.{one-mul, mul-one, mul_assoc, mul_comm, mul_left_comm, mul_right_comm, div-one, mod-one, lt_of_lt_of_le, lt_of_le_of_lt, le_trans, le_of_eq, le-suc, eq-or-lt_of_le, eq-zero-or-pos, mul-pos, mul-le-mul_right, mul-lt-mul_of_pos_right, eq_of_mul-eq-mul_right}
-use lib.Dec.{T, lit<, lit≤}
+use native.Mathlib.Nat.{one-mul, mul-one, mul_assoc, mul_comm, mul_right_comm, div-one, mod-one, lt_of_lt_of_le, lt_of_le_of_lt, le_trans, le_of_eq, le-suc, eq-or-lt_of_le, eq-zero-or-pos, mul-pos, mul-le-mul_right, eq_of_mul-eq-mul_right}
+use lib.Dec.{lit<}
 use lib.Pow.{pow_pos, pow_mono, pow-lt, pow-add, shl_lt}
 use lib.IntN.{pos}
-use lib.Ieee.{Float, fin, nan, inf, binary32, round, of_int, mul, size, nearest, fits, up, down}
-use lib.Ieee.Digits.{size-lt, size-le, size_reaches}
-use lib.Ieee.Fits.{round-fits, mul-fits}
+use lib.Ieee.{Float, fin, nan, inf, binary32, round, of_int, mul, size, up, down}
+use lib.Ieee.Digits.{size-lt, size_reaches}
+use lib.Ieee.Fits.{round-fits}
 use lib.Ieee.Exact.{HasValue, round_exact}
 use lib.Ieee.Nearest.{closest, closest_same}
 use lib.Ieee.Scale.{grid, overflow, round_val}
 use lib.Ieee.Back.{round_whole, whole_unique}
-use lib.Ieee.Positive.{positive, positive_of_value, mul_at}
+use lib.Ieee.Positive.{positive_of_value, mul_at}
 use Rattle.garbage.specs.Ratio.{lost, rounded}
 use Rattle.garbage.proofs.Round.{kept-le, kept-pos, lost-le, size_is, le_or_gt}
 

@@ -1,16 +1,16 @@
 -- Entries and columns: one law over the column, by the field `f` that it holds; then an entry added, as the code adds it.
-use Prim.Native.Nat.{ℕ, zero, suc, ◌+◌, ◌-◌, ◌≤◌, ◌<◌, ◌^◌}
+use Prim.Native.Nat.{ℕ, zero, suc, ◌+◌, ◌≤◌, ◌<◌}
 use mathlib.Core.Path.{◌≡◌, refl, sym, ◌∙◌, ap, ap₂}
 use mathlib.Core.List.{List, [], ◌∷◌, ◌++◌, map, map-append}
 use mathlib.Core.Bool.{Bool, true, false, ◌&&◌}
 use native.Mathlib.Omega.{arith}
 use native.Mathlib.Numerals.{add-one}
-use lib.ListN.{length, take, drop, get_or, set, length-set, length-map, take-append-drop}
+use lib.ListN.{length, take, drop, get_or, set, length-set, take-append-drop}
 use lib.Seq.{length-take-le, set-append_left, drop-cons, set-get_or}
-use lib.Dec.{ltb, leb, eqb}
-use Rattle.garbage.specs.Entries.{Entry, plus, added, ascending_from, fits, all_fit, judged, Outcome, made, sumTooBig, mapFull}
+use lib.Dec.{leb}
+use Rattle.garbage.specs.Entries.{Entry, plus, added, ascending_from, fits, all_fit, judged}
 use Rattle.garbage.specs.Maps.{Columns, entry_at, rows, with_entries}
-use Rattle.garbage.specs.Columns.{Whole, State, state, holds, coded, add_of, instead_of, place_in, rising_from, inserted_at}
+use Rattle.garbage.specs.Columns.{Whole, state, holds, coded, add_of, instead_of, place_in, rising_from, inserted_at}
 use Rattle.garbage.specs.Stored.{latter}
 use Rattle.garbage.proofs.Insert.{put, put_length}
 use Rattle.garbage.proofs.Added.{no_entry, ids_of, place_of, place-le, add-found, add_fresh}

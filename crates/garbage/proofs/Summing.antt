@@ -1,12 +1,12 @@
 -- Many entries added: in any order the same, no total or count ever shrinks, and the tests made beforehand are the test of the whole.
-use Prim.Native.Nat.{ℕ, zero, suc, ◌+◌, ◌≤◌, ◌<◌, ◌^◌}
+use Prim.Native.Nat.{ℕ, suc, ◌≤◌, ◌<◌}
 use mathlib.Core.Path.{◌≡◌, refl, sym, ◌∙◌, ap, ap₂}
 use mathlib.Core.List.{List, [], ◌∷◌, ◌++◌}
 use mathlib.Core.Bool.{Bool, true, false, ◌&&◌}
 use native.Mathlib.Omega.{arith}
 use native.Mathlib.Nat.{add_comm, add_right_comm, add_assoc}
 use lib.ListN.{length}
-use lib.Dec.{leb, eqb}
+use lib.Dec.{leb}
 use borrow.Author.Tests.{eq-eqb, ne_eqb, leb-true, leb-false}
 use Rattle.numbers.specs.Pick.{pick}
 use Rattle.garbage.specs.Entries.{Entry, plus, added, added_all, ascending_from, fits, all_fit, judged, Outcome, made, sumTooBig, mapFull}
@@ -17,7 +17,7 @@ use Rattle.garbage.specs.Batch.{afterwards, in_turn}
 use Rattle.garbage.specs.Columns.{total_of, sums_fit}
 use Rattle.garbage.proofs.Bools.{and_l, and_r, and_true, tri, by_test, same_or}
 use Rattle.garbage.proofs.Added.{add-past, add_same, add-before, add_none, add_longer}
-use Rattle.garbage.proofs.Fits.{fits_all, fits_each, none-fit, fit-head, fit-tail, fit_cons, made-is, judged-made, judged_full, judged_big}
+use Rattle.garbage.proofs.Fits.{fits_all, fits_each, none-fit, fit-head, fit-tail, fit_cons, made-is, judged-made, judged_full}
 use Rattle.garbage.proofs.Finding.{found_here, found-past, found_in_none}
 use Rattle.garbage.proofs.Turning.{add_in_order}
 

@@ -1,20 +1,19 @@
 -- Entries added one after another: each turn, the whole of them, and what is left where one is refused.
-use Prim.Native.Nat.{ℕ, zero, suc, ◌+◌, ◌-◌, ◌≤◌, ◌<◌}
+use Prim.Native.Nat.{ℕ, ◌+◌, ◌≤◌, ◌<◌}
 use mathlib.Core.Path.{◌≡◌, refl, sym, ◌∙◌, ap, ap₂, subst}
 use mathlib.Core.List.{List, [], ◌∷◌, ◌++◌}
-use mathlib.Core.Bool.{Bool, true, false, ◌&&◌}
+use mathlib.Core.Bool.{true}
 use native.Mathlib.Omega.{arith}
 use lib.ListN.{length}
-use lib.Dec.{leb}
-use borrow.Author.Tests.{leb-true, le-leb, lt-leb}
+use borrow.Author.Tests.{le-leb, lt-leb}
 use Rattle.numbers.specs.Pick.{pick}
-use Rattle.garbage.specs.Entries.{Entry, plus, added, added_all, ascending_from, all_fit, judged, Outcome, made, sumTooBig, mapFull}
+use Rattle.garbage.specs.Entries.{Entry, plus, added, ascending_from, all_fit, judged, Outcome, made, sumTooBig, mapFull}
 use Rattle.garbage.specs.Maps.{Columns, entry_at, rows, with_entries}
 use Rattle.garbage.specs.Batch.{afterwards, in_turn}
 use Rattle.garbage.specs.Columns.{Whole, Ready, Fine, Turned, State, state, holds, coded, add_of, turn_of, fold_of, settled}
 use Rattle.garbage.proofs.Added.{add_ascending, add_longer}
 use Rattle.garbage.proofs.Fits.{made-is}
-use Rattle.garbage.proofs.Slots.{ascending_held, rows-length}
+use Rattle.garbage.proofs.Slots.{ascending_held}
 use Rattle.garbage.proofs.Holding.{rows_with, with_with, ready_with, rows_snoc, rows_zero}
 
 pub plus-id : (x e : Entry) → x.id ≡ e.id → (plus x e).id ≡ x.id

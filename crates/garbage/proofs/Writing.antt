@@ -2,8 +2,8 @@
 use Prim.Native.Nat.{ℕ, ◌+◌, ◌≤◌, ◌<◌, ◌^◌}
 use mathlib.Core.Path.{◌≡◌, refl, sym, ◌∙◌, ap, ap₂}
 use mathlib.Core.List.Permᴰ
-use mathlib.Core.List.{List, [], ◌∷◌, ◌++◌, map, Permᴰ}
-use mathlib.Core.Bool.{Bool, true, false, ◌&&◌}
+use mathlib.Core.List.{List, [], ◌∷◌, ◌++◌, Permᴰ}
+use mathlib.Core.Bool.{Bool, true, false}
 use native.Mathlib.Omega.{arith}
 use lib.ListN.{length, length-append}
 use Rattle.numbers.specs.Pick.{pick}
@@ -20,7 +20,6 @@ use Rattle.garbage.specs.Files.{Frame, File, gone_of, all_gone, stated_of, Own, 
 use Rattle.garbage.specs.Files as F
 use Rattle.garbage.specs.Written.{Written, run_of, FromZero, AllFromZero, with_drops, file_of, files_of, Among, here, there}
 use Rattle.garbage.specs.Verdicts.{dead_of}
-use Rattle.garbage.specs.Arrangements.{pointers_of}
 use Rattle.garbage.specs.Theorems.{WrittenSameBytes, WrittenDeadExactly}
 use Rattle.garbage.proofs.Dealing.{same_bytes_lem, dead_exactly_lem}
 
@@ -88,10 +87,12 @@ all_finished [] z = tt
 all_finished (f ∷ fs) z = (finished f z.0, all_finished fs z.1)
 
 among : (f : Written) (fs : List Written) → Among f fs → In (file_of f) (files_of fs)
+among f [] x = elim x [ ]
 among f (g ∷ fs) here = F.here
 among f (g ∷ fs) (there i) = F.there (among f fs i)
 
 from_zero : (f : Written) (fs : List Written) → AllFromZero fs → Among f fs → FromZero f
+from_zero f [] z x = elim x [ ]
 from_zero f (g ∷ fs) z here = z.0
 from_zero f (g ∷ fs) z (there i) = from_zero f fs z.1 i
 

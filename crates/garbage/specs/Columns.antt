@@ -1,5 +1,5 @@
 -- In the code's own shape, for private functions: places in columns of numbers, and a count that stands for refusals too.
-use Rattle.std.specs.Prelude.{ℕ, zero, suc, ◌+◌, ◌≤◌, ◌≡◌, refl, List, [], ◌∷◌, ◌++◌, Bool, true, false, ◌&&◌, length, take, drop, get_or, set, ltb, leb, eqb}
+use Rattle.std.specs.Prelude.{ℕ, suc, ◌+◌, ◌≤◌, ◌≡◌, refl, List, [], ◌∷◌, ◌++◌, Bool, true, false, ◌&&◌, length, take, drop, get_or, set, ltb, leb, eqb}
 use Rattle.numbers.specs.Pick.{pick}
 use Rattle.numbers.specs.declared.handle.BlobIndirection.{BlobIndirection}
 use Rattle.garbage.specs.declared.map.FragmentationMap.{FragmentationMap}
@@ -7,7 +7,7 @@ use Rattle.garbage.specs.declared.map.CountRefusal.TheVariants.{MapFull, SumTooB
 use Rattle.garbage.specs.declared.map.Counted.TheVariants.{Done}
 use Rattle.garbage.specs.declared.dropped.Dropped.{Dropped}
 use Rattle.garbage.specs.Entries.{Entry, plus, added, fits, all_fit, Outcome, made, sumTooBig, mapFull, judged}
-use Rattle.garbage.specs.Maps.{Columns, columns_of, map_of, entry_at, rows, with_entries, well_formed}
+use Rattle.garbage.specs.Maps.{Columns, columns_of, map_of, rows, with_entries, well_formed}
 use Rattle.garbage.specs.Drops.{one}
 use Rattle.garbage.specs.Stored.{instead}
 use Rattle.garbage.specs.Refusals.{refuse_count}

@@ -1,5 +1,5 @@
 -- Document 01's marked examples T9 to T12.
-use Rattle.std.specs.Prelude.{ℕ, ◌*◌, ◌^◌, ◌≡◌, refl, List, [], ◌∷◌}
+use Rattle.std.specs.Prelude.{ℕ, ◌*◌, ◌^◌, ◌≡◌, refl, [], ◌∷◌}
 use Rattle.std.specs.Float.Ieee.{size}
 use Rattle.numbers.specs.Le.{le}
 use Rattle.garbage.specs.Maps.{rows, empty_map}

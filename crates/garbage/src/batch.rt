@@ -20,9 +20,9 @@ fn step<'a>(
     disk: &'a mut [u64; 64],
     p: BlobIndirection,
 ) -> usize
-    requires { Fine n (record { ids = ids.now; frames = frames.old; stated = stated.old; disk = disk.old }) }
-    ensures { Turned n (record { ids = ids.entry.now; frames = frames.old; stated = stated.old; disk = disk.old }) (one p)
-        result (record { ids = ids.exit.now; frames = frames.new; stated = stated.new; disk = disk.new }) }
+    requires { Fine n (record { ids = ids.old; frames = frames.old; stated = stated.old; disk = disk.old }) }
+    ensures { Turned n (record { ids = ids.old; frames = frames.old; stated = stated.old; disk = disk.old }) (one p)
+        result (record { ids = ids.new; frames = frames.new; stated = stated.new; disk = disk.new }) }
 {
     let e = one_of(p);
     turn(n, ids, frames, stated, disk, e)

@@ -35,7 +35,7 @@ pub(crate) fn entry_at<'a>(
     i: usize,
 ) -> FragmentationEntry
     requires { i < 64 }
-    ensures { result ≡ entry_at (record { ids = ids.entry.now; frames = frames.now; stated = stated.now; disk = disk.now }) i }
+    ensures { result ≡ entry_at (record { ids = ids.now; frames = frames.now; stated = stated.now; disk = disk.now }) i }
 {
     FragmentationEntry {
         id: ids[i],
@@ -100,9 +100,9 @@ pub(crate) fn insert(
     disk: &mut [u64; 64],
     e: FragmentationEntry,
 )
-    requires { (n < 64) × (i ≤ n) × Whole (record { ids = ids.now; frames = frames.old; stated = stated.old; disk = disk.old }) }
-    ensures { Inserted n i (record { ids = ids.entry.now; frames = frames.old; stated = stated.old; disk = disk.old }) e
-        (record { ids = ids.exit.now; frames = frames.new; stated = stated.new; disk = disk.new }) }
+    requires { (n < 64) × (i ≤ n) × Whole (record { ids = ids.old; frames = frames.old; stated = stated.old; disk = disk.old }) }
+    ensures { Inserted n i (record { ids = ids.old; frames = frames.old; stated = stated.old; disk = disk.old }) e
+        (record { ids = ids.new; frames = frames.new; stated = stated.new; disk = disk.new }) }
 {
     put64(ids, n, i, e.id);
     put32(frames, n, i, e.frames);
@@ -120,8 +120,8 @@ pub(crate) fn write(
     e: FragmentationEntry,
 )
     requires { i < 64 }
-    ensures { record { ids = ids.exit.now; frames = frames.new; stated = stated.new; disk = disk.new }
-        ≡ written i (record { ids = ids.entry.now; frames = frames.old; stated = stated.old; disk = disk.old }) e }
+    ensures { record { ids = ids.new; frames = frames.new; stated = stated.new; disk = disk.new }
+        ≡ written i (record { ids = ids.old; frames = frames.old; stated = stated.old; disk = disk.old }) e }
 {
     ids[i] = e.id;
     frames[i] = e.frames;
@@ -165,9 +165,9 @@ pub(crate) fn add(
     disk: &mut [u64; 64],
     e: FragmentationEntry,
 ) -> usize
-    requires { Ready n (record { ids = ids.now; frames = frames.old; stated = stated.old; disk = disk.old }) }
-    ensures { state result (record { ids = ids.exit.now; frames = frames.new; stated = stated.new; disk = disk.new })
-        ≡ add_of (state n (record { ids = ids.entry.now; frames = frames.old; stated = stated.old; disk = disk.old })) e }
+    requires { Ready n (record { ids = ids.old; frames = frames.old; stated = stated.old; disk = disk.old }) }
+    ensures { state result (record { ids = ids.new; frames = frames.new; stated = stated.new; disk = disk.new })
+        ≡ add_of (state n (record { ids = ids.old; frames = frames.old; stated = stated.old; disk = disk.old })) e }
 {
     let i = place(ids, n, e.id);
     if i < n {

@@ -43,8 +43,8 @@ pub fn drop_into(
     disk: &mut [u64; 64],
     p: BlobIndirection,
 ) -> Counted
-    ensures { record { answer = result; map = map_of count.new (record { ids = ids.exit.now; frames = frames.new; stated = stated.new; disk = disk.new }) }
-        ≡ dropped_of (map_of count.old (record { ids = ids.entry.now; frames = frames.old; stated = stated.old; disk = disk.old })) p }
+    ensures { record { answer = result; map = map_of count.new (record { ids = ids.new; frames = frames.new; stated = stated.new; disk = disk.new }) }
+        ≡ dropped_of (map_of count.old (record { ids = ids.old; frames = frames.old; stated = stated.old; disk = disk.old })) p }
 {
     let n = *count;
     if 64 < n {

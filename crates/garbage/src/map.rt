@@ -92,7 +92,7 @@ fn find<'a>(
     disk: &'a [u64; 64],
     id: u64,
 ) -> Lookup
-    ensures { result ≡ lookup_of (map_of count (record { ids = ids.entry.now; frames = frames.now; stated = stated.now; disk = disk.now })) id }
+    ensures { result ≡ lookup_of (map_of count (record { ids = ids.now; frames = frames.now; stated = stated.now; disk = disk.now })) id }
 {
     if 64 < count {
         return Lookup::Refused;

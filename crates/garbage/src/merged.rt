@@ -41,7 +41,7 @@ fn fits_on(
     e: FragmentationEntry,
 ) -> bool
     requires { Ready n (record { ids = ids.now; frames = frames.now; stated = stated.now; disk = disk.now }) }
-    ensures { result ≡ fits (plus (total_of e.id (rows (record { ids = ids.entry.now; frames = frames.now; stated = stated.now; disk = disk.now }) 0 n)) e) }
+    ensures { result ≡ fits (plus (total_of e.id (rows (record { ids = ids.now; frames = frames.now; stated = stated.now; disk = disk.now }) 0 n)) e) }
 {
     let i = place(ids, n, e.id);
     if i < n {
@@ -62,7 +62,7 @@ fn sums_fit(
     disk: &[u64; 64],
 ) -> bool
     requires { (source.count ≤ 64) × Ready n (record { ids = ids.now; frames = frames.now; stated = stated.now; disk = disk.now }) }
-    ensures { result ≡ sums_fit (entries_of source) (rows (record { ids = ids.entry.now; frames = frames.now; stated = stated.now; disk = disk.now }) 0 n) }
+    ensures { result ≡ sums_fit (entries_of source) (rows (record { ids = ids.now; frames = frames.now; stated = stated.now; disk = disk.now }) 0 n) }
 {
     let mut i = 0;
     while i < source.count {
@@ -85,9 +85,9 @@ pub(crate) fn turn(
     disk: &mut [u64; 64],
     e: FragmentationEntry,
 ) -> usize
-    requires { Fine n (record { ids = ids.now; frames = frames.old; stated = stated.old; disk = disk.old }) }
-    ensures { Turned n (record { ids = ids.entry.now; frames = frames.old; stated = stated.old; disk = disk.old }) e
-        result (record { ids = ids.exit.now; frames = frames.new; stated = stated.new; disk = disk.new }) }
+    requires { Fine n (record { ids = ids.old; frames = frames.old; stated = stated.old; disk = disk.old }) }
+    ensures { Turned n (record { ids = ids.old; frames = frames.old; stated = stated.old; disk = disk.old }) e
+        result (record { ids = ids.new; frames = frames.new; stated = stated.new; disk = disk.new }) }
 {
     if 64 < n {
         return n;
@@ -104,9 +104,9 @@ fn add_all(
     stated: &mut [u64; 64],
     disk: &mut [u64; 64],
 ) -> usize
-    requires { (source.count ≤ 64) × Fine count (record { ids = ids.now; frames = frames.old; stated = stated.old; disk = disk.old }) }
-    ensures { state result (record { ids = ids.exit.now; frames = frames.new; stated = stated.new; disk = disk.new })
-        ≡ fold_of (state count (record { ids = ids.entry.now; frames = frames.old; stated = stated.old; disk = disk.old })) (entries_of source) }
+    requires { (source.count ≤ 64) × Fine count (record { ids = ids.old; frames = frames.old; stated = stated.old; disk = disk.old }) }
+    ensures { state result (record { ids = ids.new; frames = frames.new; stated = stated.new; disk = disk.new })
+        ≡ fold_of (state count (record { ids = ids.old; frames = frames.old; stated = stated.old; disk = disk.old })) (entries_of source) }
 {
     let mut n = count;
     let mut i = 0;
@@ -127,11 +127,11 @@ fn merge_columns(
     stated: &mut [u64; 64],
     disk: &mut [u64; 64],
 ) -> usize
-    requires { (source.count ≤ 64) × (ascending_from 0 (entries_of source) ≡ true) × Ready n (record { ids = ids.now; frames = frames.old; stated = stated.old; disk = disk.old }) }
-    ensures { settled (record { ids = ids.entry.now; frames = frames.old; stated = stated.old; disk = disk.old })
-        (state result (record { ids = ids.exit.now; frames = frames.new; stated = stated.new; disk = disk.new }))
-        ≡ coded (record { ids = ids.entry.now; frames = frames.old; stated = stated.old; disk = disk.old })
-        (judged (added_all (entries_of source) (rows (record { ids = ids.entry.now; frames = frames.old; stated = stated.old; disk = disk.old }) 0 n))) }
+    requires { (source.count ≤ 64) × (ascending_from 0 (entries_of source) ≡ true) × Ready n (record { ids = ids.old; frames = frames.old; stated = stated.old; disk = disk.old }) }
+    ensures { settled (record { ids = ids.old; frames = frames.old; stated = stated.old; disk = disk.old })
+        (state result (record { ids = ids.new; frames = frames.new; stated = stated.new; disk = disk.new }))
+        ≡ coded (record { ids = ids.old; frames = frames.old; stated = stated.old; disk = disk.old })
+        (judged (added_all (entries_of source) (rows (record { ids = ids.old; frames = frames.old; stated = stated.old; disk = disk.old }) 0 n))) }
 {
     if sums_fit(source, n, ids, frames, stated, disk) {
         add_all(source, n, ids, frames, stated, disk)

@@ -63,8 +63,8 @@ fn keep(
     e: FragmentationEntry,
 ) -> usize
     requires { n < 64 }
-    ensures { state result (record { ids = ids.exit.now; frames = frames.new; stated = stated.new; disk = disk.new })
-        ≡ kept_in (listed_in e.id listing.now) (state n (record { ids = ids.entry.now; frames = frames.old; stated = stated.old; disk = disk.old })) e }
+    ensures { state result (record { ids = ids.new; frames = frames.new; stated = stated.new; disk = disk.new })
+        ≡ kept_in (listed_in e.id listing.now) (state n (record { ids = ids.old; frames = frames.old; stated = stated.old; disk = disk.old })) e }
 {
     if listed(listing, e.id) {
         write(n, ids, frames, stated, disk, e);
@@ -82,8 +82,8 @@ fn keep_all(
     stated: &mut [u64; 64],
     disk: &mut [u64; 64],
 ) -> usize
-    requires { (m.count ≤ 64) × Whole (columns_of m) × (record { ids = ids.now; frames = frames.old; stated = stated.old; disk = disk.old } ≡ columns_of m) }
-    ensures { state result (record { ids = ids.exit.now; frames = frames.new; stated = stated.new; disk = disk.new })
+    requires { (m.count ≤ 64) × Whole (columns_of m) × (record { ids = ids.old; frames = frames.old; stated = stated.old; disk = disk.old } ≡ columns_of m) }
+    ensures { state result (record { ids = ids.new; frames = frames.new; stated = stated.new; disk = disk.new })
         ≡ holds (columns_of m) (kept_of listing.now (entries_of m)) }
 {
     let mut n = 0;

@@ -100,7 +100,7 @@ fn put_entries<'a>(
 )
     requires { (n ≤ 64) × (4 + 28 * n ≤ length buf.old) }
     ensures { buf.new
-        ≡ sets buf.old 4 (entries_bytes (rows (record { ids = ids.entry.now; frames = frames.now; stated = stated.now; disk = disk.now }) 0 n)) }
+        ≡ sets buf.old 4 (entries_bytes (rows (record { ids = ids.now; frames = frames.now; stated = stated.now; disk = disk.now }) 0 n)) }
 {
     let mut i = 0;
     while i < n {
@@ -118,8 +118,8 @@ pub fn store_columns<'a>(
     disk: &'a [u64; 64],
     buf: &mut [u8],
 ) -> Stored
-    ensures { (result ≡ store_answer (map_of count (record { ids = ids.entry.now; frames = frames.now; stated = stated.now; disk = disk.now })) buf.old)
-        × (buf.new ≡ store_bytes (map_of count (record { ids = ids.entry.now; frames = frames.now; stated = stated.now; disk = disk.now })) buf.old) }
+    ensures { (result ≡ store_answer (map_of count (record { ids = ids.now; frames = frames.now; stated = stated.now; disk = disk.now })) buf.old)
+        × (buf.new ≡ store_bytes (map_of count (record { ids = ids.now; frames = frames.now; stated = stated.now; disk = disk.now })) buf.old) }
 {
     if 64 < count {
         return Stored::Refused(StoreRefusal::MapFull);
@@ -146,9 +146,9 @@ fn put_instead(
     disk: &mut [u64; 64],
     e: FragmentationEntry,
 ) -> usize
-    requires { (n < 64) × Rising n (record { ids = ids.now; frames = frames.old; stated = stated.old; disk = disk.old }) }
-    ensures { state result (record { ids = ids.exit.now; frames = frames.new; stated = stated.new; disk = disk.new })
-        ≡ instead_of (state n (record { ids = ids.entry.now; frames = frames.old; stated = stated.old; disk = disk.old })) e }
+    requires { (n < 64) × Rising n (record { ids = ids.old; frames = frames.old; stated = stated.old; disk = disk.old }) }
+    ensures { state result (record { ids = ids.new; frames = frames.new; stated = stated.new; disk = disk.new })
+        ≡ instead_of (state n (record { ids = ids.old; frames = frames.old; stated = stated.old; disk = disk.old })) e }
 {
     let i = place(ids, n, e.id);
     if i < n {
@@ -170,9 +170,9 @@ fn get_entries(
     stated: &mut [u64; 64],
     disk: &mut [u64; 64],
 ) -> usize
-    requires { (k ≤ 64) × (4 + 28 * k ≤ length s.now) × Whole (record { ids = ids.now; frames = frames.old; stated = stated.old; disk = disk.old }) }
-    ensures { state result (record { ids = ids.exit.now; frames = frames.new; stated = stated.new; disk = disk.new })
-        ≡ holds (record { ids = ids.entry.now; frames = frames.old; stated = stated.old; disk = disk.old }) (instead_all (entries_in k (drop 4 s.now)) []) }
+    requires { (k ≤ 64) × (4 + 28 * k ≤ length s.now) × Whole (record { ids = ids.old; frames = frames.old; stated = stated.old; disk = disk.old }) }
+    ensures { state result (record { ids = ids.new; frames = frames.new; stated = stated.new; disk = disk.new })
+        ≡ holds (record { ids = ids.old; frames = frames.old; stated = stated.old; disk = disk.old }) (instead_all (entries_in k (drop 4 s.now)) []) }
 {
     let mut n = 0;
     let mut i = 0;
