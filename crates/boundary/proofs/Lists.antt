@@ -12,7 +12,7 @@ use Rattle.numbers.specs.Pick.{pick}
 use Rattle.garbage.specs.Batch.{batch_of}
 use Rattle.garbage.specs.declared.map.FragmentationMap.{FragmentationMap}
 use Rattle.garbage.specs.declared.dropped.Dropped.{Dropped}
-use Rattle.boundary.specs.Maps.{pointers_in, narrow_at, narrow, rows_refused, counted_number, Batched, batched_of}
+use Rattle.boundary.specs.Maps.{pointers_in, narrow_at, narrow, rows_refused, counted_number, batched_of}
 
 both : (a b : Bool) → (a && b) ≡ true → (a ≡ true) × (b ≡ true)
 both true b h = (refl, h)
