@@ -30,23 +30,6 @@ pub pointer_at-p-requires : goal.pointer_at-p-requires
 pointer_at-p-requires c = let l = c.loop-i in
     (omega arith, narrow_at_lem c.args.rows.now c.args.n l.i c.requires.2 c.loop-i-test.true)
 
-pub offset_bounds-list-i : goal.offset_bounds-list-i
-offset_bounds-list-i c = omega arith
-
-pub bounds-list-i : goal.bounds-list-i
-bounds-list-i c = omega arith
-
-pub overflow_add-i : goal.overflow_add-i
-overflow_add-i c = omega arith
-
-pub loop-i-smaller : goal.loop-i-smaller
-loop-i-smaller c = omega arith
-
 pub loop-i-preserved : goal.loop-i-preserved
 loop-i-preserved c = let l = c.loop-i in
     (omega arith, length-set l.list l.i c.pointer_at-p.result ∙ l.invariant.1, one_more c.args.rows.now l.list l.i c.pointer_at-p.result (omega (arith, l.invariant.1)) l.invariant.2 c.pointer_at-p.ensures)
-
-pub returns : goal.returns
-returns c = let l = c.loop-i in
-    let e : l.i ≡ c.args.n = omega (arith, l.invariant.0) in
-    ap (λ (k : ℕ). take k l.list) (sym e) ∙ l.invariant.2 ∙ ap (λ (k : ℕ). pointers_in k c.args.rows.now) e

@@ -1,8 +1,0 @@
--- Case by case.
-use mathlib.Core.Path.{ap, sym, ◌∙◌}
-use Rattle.boundary.specs.Maps.{loaded_number}
-use Rattle.boundary.specs.Rows.{below_zero}
-use Rattle.boundary.proofs.dropped.loaded_number.Goals as goal
-
-pub returns-in-Refused : goal.returns-in-Refused
-returns-in-Refused c = c.below_zero.ensures ∙ ap below_zero c.number.ensures ∙ ap loaded_number (sym c.in-Refused.is)
