@@ -36,7 +36,7 @@ either w false x y p q = q
 
 module _ (s : List ℕ) (w : Scanner) where
   read-on : (at needed : ℕ) (more : Framed) → Moves w more → Moves w (reading s at needed w more)
-  unfolding reading
+  unfolding reading pick
   read-on at needed more m = either w (ltb (length s - at) needed) (cut_at at needed (length s - at) w) more tt m
 
   whole : (h : Header) → w.at + 4 ≤ w.at + header_length + h.key + h.size
@@ -47,7 +47,7 @@ module _ (s : List ℕ) (w : Scanner) where
   frame-moves = read-on _ _ _ (read-on _ _ _ (read-on _ _ _ (whole (header_of (drop w.at s)))))
 
   moves : Moves w (frame_at s w)
-  unfolding frame_at
+  unfolding frame_at pick
   moves = either w w.ended _ _ refl (read-on w.at 4 _ (either w (starts meta (drop w.at s)) _ _ refl (either w (starts blob (drop w.at s)) _ _ frame-moves (omega arith))))
 
 either-after : (at : ℕ) (b : Bool) (x y : Scanned) → at ≤ (after x).at → at ≤ (after y).at → at ≤ (after (pick b x y)).at
@@ -56,7 +56,7 @@ either-after at true x y p q = p
 either-after at false x y p q = q
 
 checked-moves : (s : List ℕ) (w : Scanner) (f : Framed) → Moves w f → is_over (checked_of s f) ≡ false → w.at + 4 ≤ (after (checked_of s f)).at
-unfolding checked_of is_over after
+unfolding checked_of is_over after pick
 checked-moves s w (framed.Entry e sum next) m h = either-after (w.at + 4) (same_sum sum (sum_at s e)) _ _ m m
 checked-moves s w (framed.End at next) m h = absurd (let z : ◌≡◌ {A = ℕ} 0 1 = cc in omega arith)
 checked-moves s w (framed.Refused (frame.CutShort cut) next) m h = absurd (let z : ◌≡◌ {A = ℕ} 0 1 = cc in omega arith)
@@ -73,7 +73,7 @@ neither true e n next why m h = let z : ◌≡◌ {A = ℕ} 0 1 = cc in omega ar
 neither false e n next why m h = let z : ◌≡◌ {A = ℕ} 0 1 = cc in omega arith
 
 checked-at : (s : List ℕ) (w next : Scanner) (m : ℕ) (f : Framed) → Moves w f → checked_of s f ≡ scanned.End m next → w.at ≡ m
-unfolding checked_of
+unfolding checked_of pick
 checked-at s w next m (framed.Entry e sum n) p h = absurd (neither (same_sum sum (sum_at s e)) e n next _ m h)
 checked-at s w next m (framed.End at n) p h = p ∙ cc h
 checked-at s w next m (framed.Refused (frame.CutShort cut) n) p h = absurd (let z : ◌≡◌ {A = ℕ} 0 1 = cc in omega arith)

@@ -85,7 +85,7 @@ module _ (form : Form) (sized : Sized form) where
 
     by-judged : w.finished ≡ false → (j : Judged) → judged w (length s) (shape_of form i) ≡ j
         → Ran form w s (append_run i (bytes_of j w s (shape_of form i) (form.bytes i)) (answer_of j w (shape_of form i)))
-    unfolding accepted_as append_run
+    unfolding accepted_as append_run grown pick
     by-judged on Go e = by-finished new.finished refl (taken w (length s) (shape_of form i) Go (sym e) refl)
     by-judged on (No why) e = unchanged w s on
 
@@ -132,7 +132,7 @@ module _ (form : Form) (sized : Sized form) where
     by-finished-before false = by-items (eqb w.items 0) refl
 
     ran-finish : Ran form w s (finish_run (finish_bytes w s) (finish_answer w (length s)))
-    unfolding finish_bytes finish_answer
+    unfolding finish_bytes finish_answer pick
     ran-finish = by-finished-before w.finished
 
     pub ran_call : (c : Call) → TypedCall c → Ran form w s (called form c w s)

@@ -1,9 +1,8 @@
 -- What a point read tells, and the part that it hands back: document 01, "The scan and the point read".
-use Rattle.std.specs.Prelude.{ℕ, ◌+◌, ◌-◌, min, List, ◌++◌, not, length, take, drop, ltb}
+use Rattle.std.specs.Prelude.{ℕ, ◌+◌, ◌-◌, min, List, ◌++◌, not, length, take, drop, ltb, if◌then◌else◌}
 use Rattle.std.specs.Borrow.{Bor}
 use Rattle.hash.specs.declared.Hash128.{Hash128}
 use Rattle.hash.specs.XXH3.{xxh3_128}
-use Rattle.numbers.specs.Pick.{if◌then◌else◌}
 use Rattle.numbers.specs.Part.{behind}
 use Rattle.numbers.specs.declared.cut.CutShort.{CutShort}
 use Rattle.numbers.specs.declared.handle.ValueHandle.{ValueHandle}

@@ -1,8 +1,7 @@
 -- What one step of a scan answers: document 01, "The scan and the point read".
-use Rattle.std.specs.Prelude.{ℕ, ◌+◌, ◌-◌, refl, List, [], ◌∷◌, ◌++◌, true, false, length, take, drop, ltb}
+use Rattle.std.specs.Prelude.{ℕ, ◌+◌, ◌-◌, refl, List, [], ◌∷◌, ◌++◌, true, false, length, take, drop, ltb, if◌then◌else◌}
 use Rattle.hash.specs.declared.Hash128.{Hash128}
 use Rattle.hash.specs.XXH3.{xxh3_128}
-use Rattle.numbers.specs.Pick.{if◌then◌else◌}
 use Rattle.frames.specs.Layout.{blob, meta, header_length, Item, header_of, starts, same_sum}
 use Rattle.frames.specs.Shape.{item_of}
 use Rattle.frames.specs.Refusals.{frame_says, refuse_frame, refuse_scan}

@@ -1,6 +1,5 @@
 -- A scan: steps made one after another over one file.
-use Rattle.std.specs.Prelude.{ℕ, zero, suc, ◌+◌, ◌-◌, ◌/◌, List, [], ◌∷◌, ◌++◌, Bool, true, false, leb, length}
-use Rattle.numbers.specs.Pick.{if◌then◌else◌}
+use Rattle.std.specs.Prelude.{ℕ, zero, suc, ◌+◌, ◌-◌, ◌/◌, List, [], ◌∷◌, ◌++◌, Bool, true, false, leb, length, if◌then◌else◌}
 use Rattle.frames.specs.Scan.{going, step_of}
 use Rattle.frames.specs.declared.scanner.Scanner.{Scanner}
 use Rattle.frames.specs.declared.scanner.ScanEntry.{ScanEntry}

@@ -52,7 +52,7 @@ module _ (e : ScanEntry) (sum : Hash128) (next : Scanner) where
   at_mark false why n x h = absurd (let z : ◌≡◌ {A = ℕ} 0 1 = cc in omega arith)
 
   at_read : (s : List ℕ) (at needed : ℕ) (w : Scanner) (x : Framed) → Is (reading s at needed w x) → (needed ≤ length s - at) × Is x
-  unfolding reading
+  unfolding reading pick
   at_read s at needed w x h =
       let p = at-refusal (ltb (length s - at) needed) _ w x h in
       (ltb-false _ _ p.0, p.1)
@@ -66,7 +66,7 @@ right false f e next' next why h = absurd (let z : ◌≡◌ {A = ℕ} 0 1 = cc 
 
 checked : (s : List ℕ) (e : ScanEntry) (next : Scanner) (f : Framed) → checked_of s f ≡ scanned.Entry e next
     → (sum : Hash128) × (f ≡ framed.Entry e sum next) × (same_sum sum (sum_at s e) ≡ true)
-unfolding checked_of
+unfolding checked_of pick
 checked s e next (framed.Entry f sum next') h =
     let p = right _ f e next' next _ h in
     (sum, rw (p.1, p.2), rw (← p.1) p.0)
@@ -79,7 +79,7 @@ entries : (a b : ScanEntry) (x y : Hash128) (n m : Scanner) → framed.Entry a x
 entries a b x y n m h = (cc, cc, cc)
 
 pub whole : (s : List ℕ) (w : Scanner) (e : ScanEntry) (next : Scanner) → step_of s w ≡ scanned.Entry e next → Whole s w (header_of (drop w.at s)) e next
-unfolding step_of frame_at frame_of
+unfolding step_of frame_at frame_of checked
 whole s w e next q =
     let h = header_of (drop w.at s) in
     let c = checked s e next (frame_at s w) q in

@@ -1,7 +1,6 @@
 -- What the writer answers and writes: document 01, "The frame", and its order of refusals.
-use Rattle.std.specs.Prelude.{ℕ, ◌+◌, ◌<◌, ◌≤◌, ◌^◌, refl, List, [], ◌++◌, Bool, true, false, not, length, ltb, leb, eqb}
+use Rattle.std.specs.Prelude.{ℕ, ◌+◌, ◌<◌, ◌≤◌, ◌^◌, refl, List, [], ◌++◌, Bool, true, false, not, length, ltb, leb, eqb, if◌then◌else◌}
 use Rattle.std.proofs.lemmas.List.Edits.{sets}
-use Rattle.numbers.specs.Pick.{if◌then◌else◌}
 use Rattle.numbers.specs.declared.handle.BlobIndirection.{BlobIndirection}
 use Rattle.frames.specs.Layout.{meta, Item}
 use Rattle.frames.specs.Shape.{Form, shape_of, size_of}

@@ -131,7 +131,7 @@ pub record Taken (w : Writer) (n : ℕ) (f : Shape) : Type 0 where
   pub total : w.stated + f.stated ≤ most
 
 pub taken : (w : Writer) (n : ℕ) (f : Shape) (j : Judged) → j ≡ judged w n f → j ≡ Go → Taken w n f
-unfolding judged over_of
+unfolding judged over_of pick
 taken w n f j e g =
     let p₁ = pick-go _ _ _ (sym e ∙ g) in
     let p₂ = pick-go _ _ _ p₁.1 in
