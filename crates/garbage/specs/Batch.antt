@@ -1,5 +1,5 @@
 -- Drops one after another (document 01, a batch "is taken whole, or refused with its first refusal").
-use Rattle.std.specs.Prelude.{List, [], ◌∷◌, map}
+use Rattle.std.specs.Prelude.{refl, List, [], ◌∷◌, map}
 use Rattle.numbers.specs.Pick.{pick}
 use Rattle.numbers.specs.declared.handle.BlobIndirection.{BlobIndirection}
 use Rattle.garbage.specs.declared.map.FragmentationMap.{FragmentationMap}
@@ -10,7 +10,7 @@ use Rattle.garbage.specs.declared.dropped.Dropped.{Dropped}
 use Rattle.garbage.specs.Entries.{Entry, added, Outcome, made, sumTooBig, mapFull, judged}
 use Rattle.garbage.specs.Maps.{entries_of, well_formed}
 use Rattle.garbage.specs.Drops.{one, answered, dropped_of}
-use Rattle.garbage.specs.Refusals.{refuse_count}
+use Rattle.garbage.specs.Refusals.{count_number, refuse_count}
 
 -- what was made goes on; a refusal stays
 abbrev pub afterwards : Outcome → (List Entry → Outcome) → Outcome
@@ -27,12 +27,12 @@ in_turn (e ∷ es) l = afterwards (judged (added e l)) (in_turn es)
 abbrev pub batch_of : FragmentationMap → List BlobIndirection → Dropped
 batch_of m ps =
     pick (well_formed m) (answered m (in_turn (map one ps) (entries_of m)))
-    (record { answer = refuse_count 11 MapFull; map = m })
+    (record { answer = refuse_count 11 MapFull refl; map = m })
 
 -- the same drops made one call after another: where one is refused, its refusal with the first map
 abbrev pub going_on : Counted → FragmentationMap → Dropped → Dropped
 going_on Done first next = next
-going_on (Refused why) first next = record { answer = Refused why; map = first }
+going_on (Refused why) first next = record { answer = refuse_count (count_number why) why refl; map = first }
 
 unfoldable pub one_by_one : FragmentationMap → FragmentationMap → List BlobIndirection → Dropped
 one_by_one first m [] = record { answer = Done; map = m }

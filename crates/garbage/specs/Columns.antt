@@ -1,5 +1,5 @@
 -- In the code's own shape, for private functions: places in columns of numbers, and a count that stands for refusals too.
-use Rattle.std.specs.Prelude.{ℕ, suc, ◌+◌, ◌≤◌, ◌≡◌, List, [], ◌∷◌, ◌++◌, Bool, true, false, ◌&&◌, length, take, drop, get_or, set, ltb, leb, eqb}
+use Rattle.std.specs.Prelude.{ℕ, suc, ◌+◌, ◌≤◌, ◌≡◌, refl, List, [], ◌∷◌, ◌++◌, Bool, true, false, ◌&&◌, length, take, drop, get_or, set, ltb, leb, eqb}
 use Rattle.numbers.specs.Pick.{pick}
 use Rattle.numbers.specs.declared.handle.BlobIndirection.{BlobIndirection}
 use Rattle.garbage.specs.declared.map.FragmentationMap.{FragmentationMap}
@@ -139,7 +139,7 @@ begin_of m = pick (well_formed m) m.count 65
 abbrev pub finish_of : FragmentationMap → ℕ → Columns → Dropped
 finish_of m n c =
     pick (leb n 64) (record { answer = Done; map = map_of n c })
-    (pick (eqb n 65) (record { answer = refuse_count 11 MapFull; map = m }) (record { answer = refuse_count 12 SumTooBig; map = m }))
+    (pick (eqb n 65) (record { answer = refuse_count 11 MapFull refl; map = m }) (record { answer = refuse_count 12 SumTooBig refl; map = m }))
 
 abbrev pub finished : FragmentationMap → State → Dropped
 finished m t = finish_of m t.n t.columns

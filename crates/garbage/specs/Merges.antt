@@ -16,15 +16,15 @@ use Rattle.garbage.specs.Refusals.{refuse_count, refuse_prune, refuse_sum}
 -- the target holds what was made and the source is empty; refused, both as they came in
 abbrev pub merge_answered : FragmentationMap → FragmentationMap → Outcome → Merged
 merge_answered source target (made l) = record { answer = Done; source = empty_map; target = holding target l }
-merge_answered source target sumTooBig = record { answer = refuse_count 12 SumTooBig; source = source; target = target }
-merge_answered source target mapFull = record { answer = refuse_count 11 MapFull; source = source; target = target }
+merge_answered source target sumTooBig = record { answer = refuse_count 12 SumTooBig refl; source = source; target = target }
+merge_answered source target mapFull = record { answer = refuse_count 11 MapFull refl; source = source; target = target }
 
 -- a malformed map of the two is 11 before all else; then 12 before 11
 abbrev pub merged_of : FragmentationMap → FragmentationMap → Merged
 merged_of source target =
     pick (well_formed source && well_formed target)
     (merge_answered source target (judged (added_all (entries_of source) (entries_of target))))
-    (record { answer = refuse_count 11 MapFull; source = source; target = target })
+    (record { answer = refuse_count 11 MapFull refl; source = source; target = target })
 
 -- "Pruning keeps only listed ids"
 unfoldable pub listed_in : ℕ → List ℕ → Bool
@@ -49,5 +49,5 @@ disk_sum (e ∷ l) = e.disk + disk_sum l
 abbrev pub stale_bytes_of : FragmentationMap → StaleBytes
 stale_bytes_of m =
     pick (well_formed m)
-    (pick (ltb (disk_sum (entries_of m)) (2 ^ 64)) (sum.Sum (disk_sum (entries_of m))) (refuse_sum 12 SumTooBig))
-    (refuse_sum 11 MapFull)
+    (pick (ltb (disk_sum (entries_of m)) (2 ^ 64)) (sum.Sum (disk_sum (entries_of m))) (refuse_sum 12 SumTooBig refl))
+    (refuse_sum 11 MapFull refl)

@@ -17,7 +17,7 @@ use Rattle.garbage.specs.declared.record.RecordAnswer.TheVariants.{Done}
 use Rattle.garbage.specs.declared.record.RecordDropped.{RecordDropped}
 use Rattle.garbage.specs.Maps.{well_formed}
 use Rattle.garbage.specs.Drops.{dropped_of}
-use Rattle.garbage.specs.Refusals.{count_number, refuse_count, refuse_record}
+use Rattle.garbage.specs.Refusals.{count_number, refuse_record}
 
 -- a drop's answer, as a record's
 abbrev pub answer_of : Counted → RecordAnswer
@@ -38,4 +38,4 @@ abbrev pub record_of : FragmentationMap → Bool → List ℕ → RecordDropped
 record_of m marked bytes =
     pick (well_formed m)
     (pick marked (decoded m (indirection_of 0 bytes)) (record { answer = Done; map = m }))
-    (record { answer = answer_of (refuse_count 11 MapFull); map = m })
+    (record { answer = refuse_record (11 ∷ []) (Count MapFull) refl; map = m })

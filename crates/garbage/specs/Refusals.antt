@@ -1,5 +1,5 @@
 -- Document 01's number for each refusal of the map, and the values that come with it: the definitions of the answers name their refusals by these.
-use Rattle.std.specs.Prelude.{ℕ, ◌≡◌, ◌==◌, if◌then◌else◌, List, [], ◌∷◌}
+use Rattle.std.specs.Prelude.{ℕ, ◌≡◌, List, [], ◌∷◌}
 use Rattle.numbers.specs.Refusals.{values_of_cut}
 use Rattle.numbers.specs.declared.leb128.NumberRefusal.TheVariants as number
 use Rattle.garbage.specs.declared.map.CountRefusal.{CountRefusal}
@@ -88,14 +88,13 @@ stale_number (stale.Kept ratio) = 0
 stale_number stale.NoEntry = 0
 stale_number stale.Refused = 11
 
--- A refused answer, named together with its number (and values): a wrong pair has no proof, and is refused here. Of a count's two refusals a wrong
--- pair is no refusal, so that no call could promise it.
+-- A refused answer, named together with its number (and values): a wrong pair has no proof, and is refused here.
 
-abbrev pub refuse_count : (number : ℕ) (why : CountRefusal) → Counted
-refuse_count number why = if count_number why == number then counted.Refused why else counted.Done
+abbrev pub refuse_count : (number : ℕ) (why : CountRefusal) → count_number why ≡ number → Counted
+refuse_count number why e = counted.Refused why
 
-abbrev pub refuse_sum : (number : ℕ) (why : CountRefusal) → StaleBytes
-refuse_sum number why = if count_number why == number then sum.Refused why else sum.Sum 0
+abbrev pub refuse_sum : (number : ℕ) (why : CountRefusal) → count_number why ≡ number → StaleBytes
+refuse_sum number why e = sum.Refused why
 
 abbrev pub refuse_record : (says : List ℕ) (why : RecordRefusal) → record_says why ≡ says → RecordAnswer
 refuse_record says why e = answer.Refused why
