@@ -1,5 +1,5 @@
 // The bits of a binary32. A NaN has none of its own.
-use crate::output::{decimal, text};
+use crate::output::{Output, decimal, text};
 use crate::run::Run;
 
 // The number of a pattern; a NaN's gives a NaN.
@@ -18,7 +18,7 @@ fn bits_of(x: f32) -> u32 {
 }
 
 // A space and a pattern, or `nan`.
-pub fn pattern(out: &mut [u8], run: Run, x: f32) -> Run {
+pub fn pattern(out: &mut Output, run: Run, x: f32) -> Run {
     if x == x {
         return decimal(out, run, bits_of(x) as u64);
     }
