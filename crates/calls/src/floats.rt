@@ -3,6 +3,7 @@ use crate::output::{Output, decimal, text};
 use crate::run::Run;
 
 // The number of a pattern; a NaN's gives a NaN.
+#[tactic(auto, using(std::proofs::lemmas::Float::not_nan_f32_bits))]
 pub fn of_bits(bits: u32) -> f32 {
     if bits % 0x8000_0000 <= 0x7f80_0000 {
         return f32::from_bits(bits);
