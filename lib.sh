@@ -1,5 +1,5 @@
-# Shared by run, test, wrong, oracle/ and bench/: plain words for what is missing, the lock of this clone, and the words that start
-# a built program. POSIX sh, but for `apart`, which is bash's; the script that reads it in has set `top` to the repository's folder.
+# Shared by run, test, wrong, oracle/ and bench/: plain words for what is missing, and the lock of this clone. POSIX sh, but for `apart`,
+# which is bash's; the script that reads it in has set `top` to the repository's folder.
 
 # refuse WORDS..: says them, and ends with status 2
 refuse() {
@@ -48,18 +48,4 @@ apart() {
     set -- $?
     child=''
     return "$1"
-}
-
-# kit: prints the folder of the Rattle kit that rt is of
-kit() { printf '%s\n' "${RATTLE_HOME:-$(dirname "$(dirname "$(readlink -f "$(command -v rt)")")")}"; }
-
-# starting PROGRAM COMMAND..: calls COMMAND.. with the words behind it that start PROGRAM, which rt has built for x86-64: the kit's
-# loader with the kit's C library, under the kit's emulator on another processor
-starting() {
-    program=$1 tools=$(kit)/on/$(uname -m)/toolchain
-    shift
-    loader=$tools/lib/ld-linux-x86-64.so.2 emulator=$tools/bin/qemu-x86_64
-    [ -f "$loader" ] || refuse "no loader to start $program with: the kit's was looked for at $loader"
-    [ ! -x "$emulator" ] || set -- "$@" "$emulator"
-    "$@" "$loader" --library-path "$tools/lib" "$program"
 }

@@ -74,9 +74,9 @@ archive() {
     if [ -z "${BOUNDARY:-}" ]; then
         command -v rt >/dev/null || missing "no rt is here: the Rattle kit's bin/ must be in PATH"
         mkdir -p "$made"
-        (cd "$top" && rt staticlib boundary) >"$made/boundary.log" 2>&1 ||
+        (cd "$top/crates/boundary" && rt lib) >"$made/boundary.log" 2>&1 ||
             failed "the archive of crates/boundary was not proved (see $made/boundary.log)"
-        BOUNDARY=$top/target/staticlib/libboundary.a
+        BOUNDARY=$top/crates/boundary/out/libboundary.a
     fi
     [ -f "$BOUNDARY" ] || missing "there is no archive at $BOUNDARY"
     BOUNDARY=$(readlink -f "$BOUNDARY")
@@ -85,7 +85,7 @@ archive() {
 
 # calls: the program over the Rattle crates
 calls() {
-    CALLS=${CALLS:-$top/target/bin/calls}
-    [ -x "$CALLS" ] || missing "the calls program is not at $CALLS (build it first, or set CALLS to it)"
+    CALLS=${CALLS:-$top/crates/calls/out/calls}
+    [ -x "$CALLS" ] || missing "the calls program is not at $CALLS (rt run in crates/calls builds it; or set CALLS to it)"
     export CALLS
 }

@@ -12,7 +12,7 @@ use Rattle.numbers.specs.Pick.{pick}
 use Rattle.garbage.specs.Batch.{batch_of}
 use Rattle.garbage.specs.declared.map.FragmentationMap.{FragmentationMap}
 use Rattle.garbage.specs.declared.dropped.Dropped.{Dropped}
-use Rattle.boundary.specs.Maps.{pointers_in, narrow_at, narrow, rows_refused, counted_number, Batched, batched_of}
+use Rattle.boundary.specs.Maps.{pointers_in, narrow_at, narrow, rows_refused, counted_number, batched_of}
 
 both : (a b : Bool) → (a && b) ≡ true → (a ≡ true) × (b ≡ true)
 both true b h = (refl, h)
@@ -21,9 +21,6 @@ both false b h = let c : ◌≡◌ {A = ℕ} 0 1 = cc in absurd (omega arith)
 module _ (rows : List ℕ) where
   -- one pointer's lengths
   module _ (i : ℕ) where
-    pub lengths : narrow_at rows i ≡ true → (get_or rows (3 * i + 1) 0 < 2 ^ 32) × (get_or rows (3 * i + 2) 0 < 2 ^ 32)
-    lengths h = let b = both (ltb (get_or rows (3 * i + 1) 0) (2 ^ 32)) (ltb (get_or rows (3 * i + 2) 0) (2 ^ 32)) h in (ltb-true _ _ b.0, ltb-true _ _ b.1)
-
     pub size_wide : 2 ^ 32 ≤ get_or rows (3 * i + 1) 0 → narrow_at rows i ≡ false
     size_wide h = ap (λ (b : Bool). b && ltb (get_or rows (3 * i + 2) 0) (2 ^ 32)) (le-ltb _ _ h)
 
@@ -58,25 +55,7 @@ module _ (rows : List ℕ) where
   unfolding narrow
   narrow-on i h a = ap (λ (k : ℕ). narrow k rows) (add-one i) ∙ ap₂ (λ (b c : Bool). b && c) h a
 
-  -- the refusal by its cases
-  module _ (e : length rows % 3 ≡ 0) where
-    pub refused-room : 1024 < length rows / 3 → rows_refused rows ≡ 3
-    unfolding rows_refused pick
-    refused-room h = rw (eq-eqb _ _ e, lt-ltb _ _ h)
-
-    module _ (l : length rows / 3 ≤ 1024) (b : Bool) (q : b ≡ narrow (length rows / 3) rows) where
-      pub refused_not : b ≡ true → rows_refused rows ≡ 0
-      unfolding rows_refused pick
-      refused_not h = rw (eq-eqb _ _ e, le-ltb _ _ l, sym q ∙ h)
-
-      pub refused-long : b ≡ false → rows_refused rows ≡ 10
-      unfolding rows_refused pick
-      refused-long h = rw (eq-eqb _ _ e, le-ltb _ _ l, sym q ∙ h)
-
-  pub refused-cut : (length rows % 3 ≡ 0 → ⊥) → rows_refused rows ≡ 7
-  unfolding rows_refused pick
-  refused-cut h = rw (ne_eqb _ _ h)
-
+  -- rows that are a list
   none-by : (a b c : Bool) → ◌≡◌ {A = ℕ} (pick a (pick b 3 (pick c 0 10)) 7) 0 → (b ≡ false) × (c ≡ true)
   unfolding pick
   none-by true false true h = (refl, refl)

@@ -108,6 +108,7 @@ fn all_narrow(rows: &[u64], n: usize) -> bool
 }
 
 // Why numbers are no list of pointers, else 0.
+#[tactic(auto, unfolding(crate::specs::Maps::rows_refused, numbers::specs::Pick::pick))]
 fn rows_refused(rows: &[u64]) -> u64
     ensures { result ≡ rows_refused rows.now }
 {
