@@ -8,8 +8,8 @@ use std::io::Stdout;
 // Standard output, the bytes that wait for it, and the first failure to write: after it nothing is written.
 #[derive(Drop)]
 pub struct Output {
-    pub to: Stdout,
-    pub bytes: [u8; 65536],
+    to: Stdout,
+    bytes: [u8; 65536],
     pub written: io::Result<()>,
 }
 
