@@ -1,8 +1,9 @@
 // The batches of standard input: each a length of 8 bytes and that many bytes of records.
+use crate::output::Output;
 use crate::run::Run;
 use crate::{output, record};
-use libc::STDIN_FILENO;
 use numbers::bytes::{get_u64, part};
+use std::io::Read;
 
 #[derive(Clone, Copy)]
 struct Turn {
@@ -18,9 +19,24 @@ enum Start {
     Nothing,
 }
 
-fn head() -> Start {
+// How many bytes came to the start of the buffer, until it is full, the input ends or a read fails.
+fn read_full(from: &mut impl Read, bytes: &mut [u8]) -> usize {
+    let mut done = 0;
+    while done < bytes.len() {
+        let Ok(n) = from.read(&mut bytes[done..]) else {
+            break;
+        };
+        if n == 0 {
+            break;
+        }
+        done += n;
+    }
+    done
+}
+
+fn head(from: &mut impl Read) -> Start {
     let mut bytes = [0u8; 8];
-    let got = io::read_full(STDIN_FILENO, &mut bytes);
+    let got = read_full(from, &mut bytes);
     if got == 0 {
         return Start::Nothing;
     }
@@ -31,24 +47,24 @@ fn head() -> Start {
 }
 
 // Whether the next n bytes could be read to the start of the buffer.
-fn fill(bytes: &mut [u8], n: usize) -> bool {
+fn fill(from: &mut impl Read, bytes: &mut [u8], n: usize) -> bool {
     if bytes.len() < n {
         return false;
     }
-    io::read_full(STDIN_FILENO, &mut bytes[..n]) == n
+    read_full(from, &mut bytes[..n]) == n
 }
 
-fn records(bytes: &mut [u8], out: &mut [u8], run: Run, n: usize) -> Run {
-    if !fill(bytes, n) {
+fn records(from: &mut impl Read, bytes: &mut [u8], out: &mut Output, run: Run, n: usize) -> Run {
+    if !fill(from, bytes, n) {
         return run.bad();
     }
     record::all(part(bytes, 0, n), out, run.to(0))
 }
 
-fn next(bytes: &mut [u8], out: &mut [u8], run: Run) -> Turn {
-    match head() {
+fn next(from: &mut impl Read, bytes: &mut [u8], out: &mut Output, run: Run) -> Turn {
+    match head(from) {
         Start::Length(n) => {
-            let after = records(bytes, out, run, n);
+            let after = records(from, bytes, out, run, n);
             Turn {
                 run: after,
                 more: after.well,
@@ -62,20 +78,21 @@ fn next(bytes: &mut [u8], out: &mut [u8], run: Run) -> Turn {
     }
 }
 
-fn each(bytes: &mut [u8], out: &mut [u8]) -> Run {
+fn each(from: &mut impl Read, bytes: &mut [u8], out: &mut Output) -> Run {
     let mut turn = Turn {
         run: Run::new(),
         more: true,
     };
-    let mut left: u64 = 1000000;
-    while 0 < left && turn.more {
-        turn = next(bytes, out, turn.run);
-        left -= 1;
+    for _ in 0..1000000 {
+        if !turn.more {
+            break;
+        }
+        turn = next(from, bytes, out, turn.run);
     }
     turn.run
 }
 
-fn verdict(out: &mut [u8], run: Run) -> Run {
+fn verdict(out: &mut Output, run: Run) -> Run {
     if run.well {
         return run;
     }
@@ -83,8 +100,8 @@ fn verdict(out: &mut [u8], run: Run) -> Run {
 }
 
 // Each batch to the end of the input, or to the first that is malformed.
-pub fn all(bytes: &mut [u8], out: &mut [u8]) {
-    let run = each(bytes, out);
+pub fn all(from: &mut impl Read, bytes: &mut [u8], out: &mut Output) {
+    let run = each(from, bytes, out);
     let run = verdict(out, run);
     output::flush(out, run);
 }

@@ -1,7 +1,7 @@
 // The steps of G that count drops: one record, a batch of pointers, a map merged into another.
 use crate::input::{bounded, field};
 use crate::maps::{Step, kept, same_map};
-use crate::output::{agreed, refused, text};
+use crate::output::{Output, agreed, refused, text};
 use crate::pointers::pointer;
 use crate::run::Run;
 use garbage::batch::drop_listed;
@@ -10,32 +10,32 @@ use garbage::record::RecordAnswer;
 use numbers::bytes::{lesser, part};
 use numbers::handle::{BlobIndirection, ValueHandle};
 
-pub fn ok(out: &mut [u8], run: Run) -> Run {
+pub fn ok(out: &mut Output, run: Run) -> Run {
     text(out, run, b"ok\n")
 }
 
-fn counted(out: &mut [u8], run: Run, a: Counted) -> Run {
+fn counted(out: &mut Output, run: Run, a: Counted) -> Run {
     match a {
         Counted::Done => ok(out, run),
         Counted::Refused(why) => refused(out, run, why.number()),
     }
 }
 
-fn record_line(out: &mut [u8], run: Run, a: RecordAnswer) -> Run {
+fn record_line(out: &mut Output, run: Run, a: RecordAnswer) -> Run {
     match a {
         RecordAnswer::Done => ok(out, run),
         RecordAnswer::Refused(why) => refused(out, run, why.number()),
     }
 }
 
-fn record(out: &mut [u8], step: Step, marked: bool, bytes: &[u8]) -> Step {
+fn record(out: &mut Output, step: Step, marked: bool, bytes: &[u8]) -> Step {
     let d = step.map.drop_record(marked, bytes);
     let a = d.answer;
     let run = record_line(out, step.run, a);
     kept(step, d.map, run)
 }
 
-pub fn dropped(batch: &[u8], out: &mut [u8], step: Step) -> Step {
+pub fn dropped(batch: &[u8], out: &mut Output, step: Step) -> Step {
     let marked = bounded(batch, step.run, 1);
     let f = field(batch, marked.run);
     let run = f.run;
@@ -66,13 +66,10 @@ fn listed(batch: &[u8], run: Run, count: u64) -> Pointers {
     let none = nowhere();
     let mut list = [none; 1024];
     let mut now = run;
-    let mut i: u64 = 0;
-    while i < count && i < 1024 {
+    for i in 0..count.min(1024) {
         let p = pointer(batch, now);
-        let q = p.indirection;
-        list[i as usize] = q;
+        list[i as usize] = p.indirection;
         now = p.run;
-        i += 1;
     }
     Pointers { list, run: now }
 }
@@ -119,12 +116,8 @@ fn one_by_one(map: FragmentationMap, list: [BlobIndirection; 1024], n: usize) ->
         map,
         number: number_before(map),
     };
-    let most = lesser(n, 1024);
-    let mut i = 0;
-    while i < most {
-        let p = list[i];
-        now = counted_one(now, p);
-        i += 1;
+    for i in 0..lesser(n, 1024) {
+        now = counted_one(now, list[i]);
     }
     now
 }
@@ -140,7 +133,7 @@ fn agree(map: FragmentationMap, batch: Tally, single: Tally) -> bool {
     same_map(batch.map, map)
 }
 
-fn both(out: &mut [u8], step: Step, list: [BlobIndirection; 1024], n: usize) -> Step {
+fn both(out: &mut Output, step: Step, list: [BlobIndirection; 1024], n: usize) -> Step {
     let d = drop_listed(step.map, list, n);
     let a = d.answer;
     let map = d.map;
@@ -154,7 +147,7 @@ fn both(out: &mut [u8], step: Step, list: [BlobIndirection; 1024], n: usize) -> 
     kept(step, map, run)
 }
 
-pub fn all(batch: &[u8], out: &mut [u8], step: Step) -> Step {
+pub fn all(batch: &[u8], out: &mut Output, step: Step) -> Step {
     let n = bounded(batch, step.run, 256);
     let p = listed(batch, n.run, n.value);
     let run = p.run;
@@ -166,7 +159,7 @@ pub fn all(batch: &[u8], out: &mut [u8], step: Step) -> Step {
     step
 }
 
-pub fn merged(out: &mut [u8], step: Step) -> Step {
+pub fn merged(out: &mut Output, step: Step) -> Step {
     let m = step.map.merge_into(step.other);
     let a = m.answer;
     let run = counted(out, step.run, a);

@@ -1,15 +1,15 @@
 // The letter D: drains of a merge, and what it answers between them.
 use crate::input::{bounded, field, number};
 use crate::merges::{Pass, begun, next, table};
-use crate::output::{decimal, end, refused, text};
+use crate::output::{Output, decimal, end, refused, text};
 use crate::run::Run;
 use crate::scans::refusal;
 use merge::drain::{DrainOutcome, DrainRefusal};
 use merge::parts::MergeScanner;
-use numbers::bytes::part;
+use numbers::bytes::{lesser, part};
 use numbers::handle::ValueHandle;
 
-fn refused_as(out: &mut [u8], run: Run, why: DrainRefusal) -> Run {
+fn refused_as(out: &mut Output, run: Run, why: DrainRefusal) -> Run {
     match why {
         DrainRefusal::BadPart => refused(out, run, why.number()),
         DrainRefusal::NotMatched => refused(out, run, why.number()),
@@ -17,7 +17,7 @@ fn refused_as(out: &mut [u8], run: Run, why: DrainRefusal) -> Run {
     }
 }
 
-fn line_of(out: &mut [u8], run: Run, o: DrainOutcome) -> Run {
+fn line_of(out: &mut Output, run: Run, o: DrainOutcome) -> Run {
     match o {
         DrainOutcome::Found => text(out, run, b"found\n"),
         DrainOutcome::Past => text(out, run, b"past\n"),
@@ -26,14 +26,14 @@ fn line_of(out: &mut [u8], run: Run, o: DrainOutcome) -> Run {
     }
 }
 
-fn drained(out: &mut [u8], image: &[u8], pass: Pass, key: &[u8], handle: ValueHandle) -> Pass {
+fn drained(out: &mut Output, image: &[u8], pass: Pass, key: &[u8], handle: ValueHandle) -> Pass {
     let d = pass.scanner.drain_blobs(image, key, handle);
     let o = d.outcome;
     let run = line_of(out, pass.run, o);
     begun(d.state, run)
 }
 
-fn taken(out: &mut [u8], image: &[u8], pass: Pass, take: u64) -> Pass {
+fn taken(out: &mut Output, image: &[u8], pass: Pass, take: u64) -> Pass {
     if take == 1 {
         return next(out, image, pass);
     }
@@ -70,7 +70,7 @@ fn sought(batch: &[u8], run: Run) -> Ask {
     }
 }
 
-fn one(batch: &[u8], out: &mut [u8], image: &[u8], pass: Pass) -> Pass {
+fn one(batch: &[u8], out: &mut Output, image: &[u8], pass: Pass) -> Pass {
     let ask = sought(batch, pass.run);
     let run = ask.run;
     let pass = begun(pass.scanner, run);
@@ -82,17 +82,18 @@ fn one(batch: &[u8], out: &mut [u8], image: &[u8], pass: Pass) -> Pass {
     taken(out, image, pass, ask.take)
 }
 
-fn asks(batch: &[u8], out: &mut [u8], image: &[u8], pass: Pass, count: u64) -> Pass {
+fn asks(batch: &[u8], out: &mut Output, image: &[u8], pass: Pass, count: u64) -> Pass {
     let mut now = pass;
-    let mut left = count;
-    while 0 < left && now.run.well {
+    for _ in 0..count {
+        if !now.run.well {
+            break;
+        }
         now = one(batch, out, image, now);
-        left -= 1;
     }
     now
 }
 
-fn position(out: &mut [u8], run: Run, scanner: MergeScanner, i: usize) -> Run {
+fn position(out: &mut Output, run: Run, scanner: MergeScanner, i: usize) -> Run {
     let parts = scanner.parts;
     if i < 16 {
         let p = parts[i];
@@ -101,23 +102,21 @@ fn position(out: &mut [u8], run: Run, scanner: MergeScanner, i: usize) -> Run {
     run
 }
 
-fn each(out: &mut [u8], run: Run, scanner: MergeScanner) -> Run {
+fn each(out: &mut Output, run: Run, scanner: MergeScanner) -> Run {
     let mut now = run;
-    let mut i = 0;
-    while i < scanner.count && i < 16 {
+    for i in 0..lesser(scanner.count, 16) {
         now = position(out, now, scanner, i);
-        i += 1;
     }
     now
 }
 
-fn positions(out: &mut [u8], run: Run, scanner: MergeScanner) -> Run {
+fn positions(out: &mut Output, run: Run, scanner: MergeScanner) -> Run {
     let run = text(out, run, b"at");
     let run = each(out, run, scanner);
     end(out, run)
 }
 
-fn all(batch: &[u8], out: &mut [u8], image: &[u8], pass: Pass, count: u64) -> Run {
+fn all(batch: &[u8], out: &mut Output, image: &[u8], pass: Pass, count: u64) -> Run {
     let now = asks(batch, out, image, pass, count);
     let run = now.run;
     if !run.well {
@@ -126,7 +125,7 @@ fn all(batch: &[u8], out: &mut [u8], image: &[u8], pass: Pass, count: u64) -> Ru
     positions(out, run, now.scanner)
 }
 
-pub fn asked(batch: &[u8], out: &mut [u8], run: Run) -> Run {
+pub fn asked(batch: &[u8], out: &mut Output, run: Run) -> Run {
     let f = field(batch, run);
     let pass = table(batch, f.run);
     let count = number(batch, pass.run);

@@ -1,6 +1,6 @@
 // The letter W: steps of a writer over a room of its own.
 use crate::input::{bounded, field, number, short};
-use crate::output::{decimal, end, line, refused, text, whole};
+use crate::output::{Output, decimal, end, line, refused, text, whole};
 use crate::pointers::numbers_of;
 use crate::run::Run;
 use frames::place::Place;
@@ -15,24 +15,24 @@ struct Work {
     run: Run,
 }
 
-fn place(out: &mut [u8], run: Run, p: Place) -> Run {
+fn place(out: &mut Output, run: Run, p: Place) -> Run {
     let run = decimal(out, run, p.at as u64);
     decimal(out, run, p.len as u64)
 }
 
-fn put_line(out: &mut [u8], run: Run, p: BlobIndirection) -> Run {
+fn put_line(out: &mut Output, run: Run, p: BlobIndirection) -> Run {
     let run = text(out, run, b"put");
     let run = numbers_of(out, run, p);
     end(out, run)
 }
 
-fn totals(out: &mut [u8], run: Run, items: u64, disk: u64, stated: u64) -> Run {
+fn totals(out: &mut Output, run: Run, items: u64, disk: u64, stated: u64) -> Run {
     let run = decimal(out, run, items);
     let run = decimal(out, run, disk);
     decimal(out, run, stated)
 }
 
-fn done_line(out: &mut [u8], run: Run, r: Report) -> Run {
+fn done_line(out: &mut Output, run: Run, r: Report) -> Run {
     let run = text(out, run, b"done");
     let run = totals(out, run, r.items, r.disk, r.stated);
     let run = place(out, run, r.first);
@@ -40,7 +40,7 @@ fn done_line(out: &mut [u8], run: Run, r: Report) -> Run {
     end(out, run)
 }
 
-fn appended(out: &mut [u8], run: Run, a: Appended) -> Work {
+fn appended(out: &mut Output, run: Run, a: Appended) -> Work {
     match a {
         Appended::Put(p, writer) => {
             let run = put_line(out, run, p);
@@ -58,7 +58,7 @@ fn appended(out: &mut [u8], run: Run, a: Appended) -> Work {
     }
 }
 
-fn plain(batch: &[u8], out: &mut [u8], room: &mut [u8], work: Work) -> Work {
+fn plain(batch: &[u8], out: &mut Output, room: &mut [u8], work: Work) -> Work {
     let k = field(batch, work.run);
     let seqno = number(batch, k.run);
     let v = field(batch, seqno.run);
@@ -72,7 +72,7 @@ fn plain(batch: &[u8], out: &mut [u8], room: &mut [u8], work: Work) -> Work {
     appended(out, run, writer.append(room, key, seqno.value, value))
 }
 
-fn raw(batch: &[u8], out: &mut [u8], room: &mut [u8], work: Work) -> Work {
+fn raw(batch: &[u8], out: &mut Output, room: &mut [u8], work: Work) -> Work {
     let k = field(batch, work.run);
     let seqno = number(batch, k.run);
     let v = field(batch, seqno.run);
@@ -92,7 +92,7 @@ fn raw(batch: &[u8], out: &mut [u8], room: &mut [u8], work: Work) -> Work {
     )
 }
 
-fn finish(out: &mut [u8], room: &mut [u8], work: Work) -> Work {
+fn finish(out: &mut Output, room: &mut [u8], work: Work) -> Work {
     let run = work.run;
     match work.writer.finish(room) {
         Closed::Done(writer, report) => {
@@ -108,21 +108,19 @@ fn finish(out: &mut [u8], room: &mut [u8], work: Work) -> Work {
 
 // A room's bytes before anything is written there.
 fn refill(room: &mut [u8]) {
-    let mut i = 0;
-    while i < room.len() {
-        room[i] = 0xEE;
-        i += 1;
+    for byte in room {
+        *byte = 0xEE;
     }
 }
 
-fn opened(out: &mut [u8], room: &mut [u8], run: Run, writer: Writer) -> Work {
+fn opened(out: &mut Output, room: &mut [u8], run: Run, writer: Writer) -> Work {
     let run = whole(out, run, room);
     let run = line(out, run, b"next", writer.id);
     refill(room);
     Work { writer, run }
 }
 
-fn next(out: &mut [u8], room: &mut [u8], work: Work) -> Work {
+fn next(out: &mut Output, room: &mut [u8], work: Work) -> Work {
     let run = work.run;
     match work.writer.next_file() {
         Opened::Next(writer) => opened(out, room, run, writer),
@@ -208,7 +206,7 @@ fn flag(on: bool) -> u64 {
     if on { 1 } else { 0 }
 }
 
-fn shown(out: &mut [u8], run: Run, w: Writer) -> Run {
+fn shown(out: &mut Output, run: Run, w: Writer) -> Run {
     let run = decimal(out, run, w.target);
     let run = decimal(out, run, flag(w.finished));
     let run = place(out, run, w.first);
@@ -216,7 +214,7 @@ fn shown(out: &mut [u8], run: Run, w: Writer) -> Run {
     end(out, run)
 }
 
-fn show(out: &mut [u8], work: Work) -> Work {
+fn show(out: &mut Output, work: Work) -> Work {
     let w = work.writer;
     let run = text(out, work.run, b"writer");
     let run = decimal(out, run, w.id);
@@ -232,7 +230,7 @@ fn wrong(work: Work) -> Work {
     Work { writer, run }
 }
 
-fn kind(batch: &[u8], out: &mut [u8], room: &mut [u8], work: Work, kind: u64) -> Work {
+fn kind(batch: &[u8], out: &mut Output, room: &mut [u8], work: Work, kind: u64) -> Work {
     match kind {
         0 => plain(batch, out, room, work),
         1 => raw(batch, out, room, work),
@@ -245,7 +243,7 @@ fn kind(batch: &[u8], out: &mut [u8], room: &mut [u8], work: Work, kind: u64) ->
     }
 }
 
-fn step(batch: &[u8], out: &mut [u8], room: &mut [u8], work: Work) -> Work {
+fn step(batch: &[u8], out: &mut Output, room: &mut [u8], work: Work) -> Work {
     let k = number(batch, work.run);
     let run = k.run;
     let writer = work.writer;
@@ -256,17 +254,18 @@ fn step(batch: &[u8], out: &mut [u8], room: &mut [u8], work: Work) -> Work {
     kind(batch, out, room, work, k.value)
 }
 
-fn steps(batch: &[u8], out: &mut [u8], room: &mut [u8], work: Work, count: u64) -> Run {
+fn steps(batch: &[u8], out: &mut Output, room: &mut [u8], work: Work, count: u64) -> Run {
     let mut now = work;
-    let mut left = count;
-    while 0 < left && now.run.well {
+    for _ in 0..count {
+        if !now.run.well {
+            break;
+        }
         now = step(batch, out, room, now);
-        left -= 1;
     }
     now.run
 }
 
-fn all(batch: &[u8], out: &mut [u8], room: &mut [u8], work: Work, count: u64) -> Run {
+fn all(batch: &[u8], out: &mut Output, room: &mut [u8], work: Work, count: u64) -> Run {
     let run = steps(batch, out, room, work, count);
     if !run.well {
         return run;
@@ -274,14 +273,21 @@ fn all(batch: &[u8], out: &mut [u8], room: &mut [u8], work: Work, count: u64) ->
     whole(out, run, room)
 }
 
-fn within(batch: &[u8], out: &mut [u8], room: &mut [u8], n: usize, work: Work, count: u64) -> Run {
+fn within(
+    batch: &[u8],
+    out: &mut Output,
+    room: &mut [u8],
+    n: usize,
+    work: Work,
+    count: u64,
+) -> Run {
     if room.len() < n {
         return work.run.bad();
     }
     all(batch, out, &mut room[..n], work, count)
 }
 
-pub fn written(batch: &[u8], out: &mut [u8], run: Run) -> Run {
+pub fn written(batch: &[u8], out: &mut Output, run: Run) -> Run {
     let n = bounded(batch, run, 32768);
     let id = number(batch, n.run);
     let target = number(batch, id.run);

@@ -1,8 +1,9 @@
 // The bits of a binary32. A NaN has none of its own.
-use crate::output::{decimal, text};
+use crate::output::{Output, decimal, text};
 use crate::run::Run;
 
 // The number of a pattern; a NaN's gives a NaN.
+#[tactic(auto, using(std::proofs::lemmas::Float::not_nan_f32_bits))]
 pub fn of_bits(bits: u32) -> f32 {
     if bits % 0x8000_0000 <= 0x7f80_0000 {
         return f32::from_bits(bits);
@@ -18,7 +19,7 @@ fn bits_of(x: f32) -> u32 {
 }
 
 // A space and a pattern, or `nan`.
-pub fn pattern(out: &mut [u8], run: Run, x: f32) -> Run {
+pub fn pattern(out: &mut Output, run: Run, x: f32) -> Run {
     if x == x {
         return decimal(out, run, bits_of(x) as u64);
     }

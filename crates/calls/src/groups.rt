@@ -1,11 +1,11 @@
 // The letters V and v: a number written and read in groups of seven bits.
 use crate::input::{bounded, field, number};
-use crate::output::{decimal, end, line, refused, text, whole};
+use crate::output::{Output, decimal, end, line, refused, text, whole};
 use crate::run::Run;
 use numbers::bytes::part;
 use numbers::leb128::{ReadU32, ReadU64, Wrote, read_u32, read_u64, write_u32, write_u64};
 
-pub fn wrote(out: &mut [u8], run: Run, w: Wrote) -> Run {
+pub fn wrote(out: &mut Output, run: Run, w: Wrote) -> Run {
     match w {
         Wrote::Used(used) => line(out, run, b"used", used as u64),
         Wrote::NoRoom => refused(out, run, w.number()),
@@ -27,7 +27,7 @@ fn write_within(room: &mut [u8], n: usize, width: u64, x: u64) -> Wrote {
     write(&mut room[..n], width, x)
 }
 
-fn made(out: &mut [u8], run: Run, width: u64, x: u64, n: usize) -> Run {
+fn made(out: &mut Output, run: Run, width: u64, x: u64, n: usize) -> Run {
     let mut room = [0xEEu8; 16];
     let w = write_within(&mut room, n, width, x);
     let run = wrote(out, run, w);
@@ -42,7 +42,7 @@ fn fits(width: u64, x: u64) -> bool {
     width == 64
 }
 
-pub fn written(batch: &[u8], out: &mut [u8], run: Run) -> Run {
+pub fn written(batch: &[u8], out: &mut Output, run: Run) -> Run {
     let width = number(batch, run);
     let x = number(batch, width.run);
     let room = bounded(batch, x.run, 16);
@@ -53,28 +53,28 @@ pub fn written(batch: &[u8], out: &mut [u8], run: Run) -> Run {
     made(out, run, width.value, x.value, room.value as usize)
 }
 
-fn found(out: &mut [u8], run: Run, value: u64, used: usize) -> Run {
+fn found(out: &mut Output, run: Run, value: u64, used: usize) -> Run {
     let run = text(out, run, b"num");
     let run = decimal(out, run, value);
     let run = decimal(out, run, used as u64);
     end(out, run)
 }
 
-fn short(out: &mut [u8], run: Run, bytes: &[u8]) -> Run {
+fn short(out: &mut Output, run: Run, bytes: &[u8]) -> Run {
     match read_u32(bytes, 0) {
         ReadU32::Number { value, used } => found(out, run, value as u64, used),
         ReadU32::Refused(why) => refused(out, run, why.number()),
     }
 }
 
-fn long(out: &mut [u8], run: Run, bytes: &[u8]) -> Run {
+fn long(out: &mut Output, run: Run, bytes: &[u8]) -> Run {
     match read_u64(bytes, 0) {
         ReadU64::Number { value, used } => found(out, run, value, used),
         ReadU64::Refused(why) => refused(out, run, why.number()),
     }
 }
 
-pub fn read(batch: &[u8], out: &mut [u8], run: Run) -> Run {
+pub fn read(batch: &[u8], out: &mut Output, run: Run) -> Run {
     let width = number(batch, run);
     let f = field(batch, width.run);
     let run = f.run.demand(fits(width.value, 0));

@@ -1,7 +1,7 @@
 // The steps of G that judge: the sum of a map's bytes, dead, and stale.
 use crate::floats::{of_bits, pattern};
 use crate::input::{number, short};
-use crate::output::{end, line, refused, text};
+use crate::output::{Output, end, line, refused, text};
 use crate::run::Run;
 use frames::place::Place;
 use frames::writer::Report;
@@ -9,7 +9,7 @@ use garbage::map::FragmentationMap;
 use garbage::pruned::StaleBytes;
 use garbage::verdict::{DeadVerdict, StaleVerdict, is_dead, is_stale};
 
-pub fn sum(out: &mut [u8], run: Run, map: FragmentationMap) -> Run {
+pub fn sum(out: &mut Output, run: Run, map: FragmentationMap) -> Run {
     match map.stale_bytes() {
         StaleBytes::Sum(total) => line(out, run, b"sum", total),
         StaleBytes::Refused(why) => refused(out, run, why.number()),
@@ -45,7 +45,7 @@ fn reported(batch: &[u8], run: Run) -> Told {
     }
 }
 
-fn dead_line(out: &mut [u8], run: Run, v: DeadVerdict) -> Run {
+fn dead_line(out: &mut Output, run: Run, v: DeadVerdict) -> Run {
     match v {
         DeadVerdict::Dead => text(out, run, b"dead\n"),
         DeadVerdict::Wanted => text(out, run, b"wanted\n"),
@@ -54,7 +54,7 @@ fn dead_line(out: &mut [u8], run: Run, v: DeadVerdict) -> Run {
     }
 }
 
-pub fn dead(batch: &[u8], out: &mut [u8], run: Run, map: FragmentationMap) -> Run {
+pub fn dead(batch: &[u8], out: &mut Output, run: Run, map: FragmentationMap) -> Run {
     let t = reported(batch, run);
     let run = t.run;
     if !run.well {
@@ -64,13 +64,13 @@ pub fn dead(batch: &[u8], out: &mut [u8], run: Run, map: FragmentationMap) -> Ru
     dead_line(out, run, is_dead(map, t.id, report))
 }
 
-fn ratio(out: &mut [u8], run: Run, word: &[u8], x: f32) -> Run {
+fn ratio(out: &mut Output, run: Run, word: &[u8], x: f32) -> Run {
     let run = text(out, run, word);
     let run = pattern(out, run, x);
     end(out, run)
 }
 
-fn stale_line(out: &mut [u8], run: Run, v: StaleVerdict) -> Run {
+fn stale_line(out: &mut Output, run: Run, v: StaleVerdict) -> Run {
     match v {
         StaleVerdict::Stale(x) => ratio(out, run, b"stale", x),
         StaleVerdict::Kept(x) => ratio(out, run, b"kept", x),
@@ -79,7 +79,7 @@ fn stale_line(out: &mut [u8], run: Run, v: StaleVerdict) -> Run {
     }
 }
 
-pub fn stale(batch: &[u8], out: &mut [u8], run: Run, map: FragmentationMap) -> Run {
+pub fn stale(batch: &[u8], out: &mut Output, run: Run, map: FragmentationMap) -> Run {
     let t = reported(batch, run);
     let threshold = short(batch, t.run);
     let run = threshold.run;

@@ -22,8 +22,12 @@ mod scans;
 mod stores;
 mod told;
 
-fn main() {
-    let mut bytes = io::large_buffer();
-    let mut out = io::large_buffer();
-    batch::all(&mut bytes, &mut out);
+use output::Output;
+use std::io;
+
+fn main(rt: HostRuntime) -> io::Result<()> {
+    let mut bytes = [0; 65536];
+    let mut out = Output::new(rt.stdout());
+    batch::all(&mut rt.stdin(), &mut bytes, &mut out);
+    out.written
 }

@@ -2,6 +2,7 @@
 ghost use Rattle.std.specs.Prelude.{◌<◌};
 
 use crate::input::{bounded, number};
+use crate::output::Output;
 use crate::run::Run;
 use crate::{counts, judges, stores};
 use garbage::map::FragmentationMap;
@@ -37,14 +38,12 @@ fn same_entry(a: FragmentationMap, b: FragmentationMap, i: usize) -> bool
 
 // The same entries; what stands past them is not looked at.
 pub fn same_map(a: FragmentationMap, b: FragmentationMap) -> bool {
-    let mut i = 0;
-    while i < 64 {
+    for i in 0..64 {
         if i < a.count {
             if !same_entry(a, b, i) {
                 return false;
             }
         }
-        i += 1;
     }
     a.count == b.count
 }
@@ -55,7 +54,7 @@ fn with_run(step: Step, run: Run) -> Step {
     Step { map, other, run }
 }
 
-fn changes(batch: &[u8], out: &mut [u8], step: Step, kind: u64) -> Step {
+fn changes(batch: &[u8], out: &mut Output, step: Step, kind: u64) -> Step {
     match kind {
         0 => counts::dropped(batch, out, step),
         1 => counts::all(batch, out, step),
@@ -68,7 +67,7 @@ fn changes(batch: &[u8], out: &mut [u8], step: Step, kind: u64) -> Step {
 }
 
 // The kinds that leave every map as it is.
-fn asks(batch: &[u8], out: &mut [u8], step: Step, kind: u64) -> Step {
+fn asks(batch: &[u8], out: &mut Output, step: Step, kind: u64) -> Step {
     let map = step.map;
     let run = step.run;
     match kind {
@@ -114,7 +113,7 @@ fn picked(batch: &[u8], run: Run, kind: u64) -> Pick {
 
 fn made(
     batch: &[u8],
-    out: &mut [u8],
+    out: &mut Output,
     map: FragmentationMap,
     other: FragmentationMap,
     run: Run,
@@ -146,7 +145,7 @@ fn set(all: Maps, i: usize, j: usize, step: Step) -> Maps
     Maps { maps, run }
 }
 
-fn turn(batch: &[u8], out: &mut [u8], all: Maps) -> Maps {
+fn turn(batch: &[u8], out: &mut Output, all: Maps) -> Maps {
     let kind = number(batch, all.run);
     let p = picked(batch, kind.run, kind.value);
     let i = (p.map % 8) as usize;
@@ -158,21 +157,22 @@ fn turn(batch: &[u8], out: &mut [u8], all: Maps) -> Maps {
     set(all, i, j, step)
 }
 
-fn steps(batch: &[u8], out: &mut [u8], run: Run, count: u64) -> Run {
+fn steps(batch: &[u8], out: &mut Output, run: Run, count: u64) -> Run {
     let none = FragmentationMap::new();
     let mut all = Maps {
         maps: [none; 8],
         run,
     };
-    let mut left = count;
-    while 0 < left && all.run.well {
+    for _ in 0..count {
+        if !all.run.well {
+            break;
+        }
         all = turn(batch, out, all);
-        left -= 1;
     }
     all.run
 }
 
-pub fn stepped(batch: &[u8], out: &mut [u8], run: Run) -> Run {
+pub fn stepped(batch: &[u8], out: &mut Output, run: Run) -> Run {
     let count = number(batch, run);
     let run = count.run;
     if !run.well {

@@ -1,6 +1,6 @@
 // The letter M: a merge of parts of one image.
 use crate::input::{field, number};
-use crate::output::{agreed, decimal, end, refused, text};
+use crate::output::{Output, agreed, decimal, end, refused, text};
 use crate::rows::agree;
 use crate::run::Run;
 use crate::scans::{both_at, refusal};
@@ -91,15 +91,16 @@ pub fn table(batch: &[u8], run: Run) -> Pass {
     let count = n.value;
     let first = n.run;
     let mut pass = begun(empty(count as usize), first);
-    let mut i: u64 = 0;
-    while i < count && pass.run.well {
+    for i in 0..count {
+        if !pass.run.well {
+            break;
+        }
         pass = one_part(batch, pass, i);
-        i += 1;
     }
     pass
 }
 
-fn named(out: &mut [u8], run: Run, image: &[u8], e: MergeEntry) -> Run {
+fn named(out: &mut Output, run: Run, image: &[u8], e: MergeEntry) -> Run {
     let key = e.key;
     let value = e.value;
     let run = decimal(out, run, e.seqno);
@@ -107,7 +108,7 @@ fn named(out: &mut [u8], run: Run, image: &[u8], e: MergeEntry) -> Run {
     both_at(out, run, image, key, value)
 }
 
-fn entry(out: &mut [u8], run: Run, image: &[u8], e: MergeEntry) -> Run {
+fn entry(out: &mut Output, run: Run, image: &[u8], e: MergeEntry) -> Run {
     let run = text(out, run, b"entry");
     let run = decimal(out, run, e.part as u64);
     let run = decimal(out, run, e.file);
@@ -115,14 +116,14 @@ fn entry(out: &mut [u8], run: Run, image: &[u8], e: MergeEntry) -> Run {
     named(out, run, image, e)
 }
 
-fn refused_as(out: &mut [u8], run: Run, why: MergeRefusal) -> Run {
+fn refused_as(out: &mut Output, run: Run, why: MergeRefusal) -> Run {
     match why {
         MergeRefusal::BadPart => refused(out, run, why.number()),
         MergeRefusal::Scan { part, why } => refusal(out, run, why, part as u64),
     }
 }
 
-fn line_of(out: &mut [u8], run: Run, image: &[u8], a: MergeAnswer) -> Run {
+fn line_of(out: &mut Output, run: Run, image: &[u8], a: MergeAnswer) -> Run {
     match a {
         MergeAnswer::Entry(e) => entry(out, run, image, e),
         MergeAnswer::End => text(out, run, b"end\n"),
@@ -147,7 +148,7 @@ fn is_refused(a: MergeAnswer) -> bool {
 }
 
 // The next answer, and its line.
-pub fn next(out: &mut [u8], image: &[u8], pass: Pass) -> Pass {
+pub fn next(out: &mut Output, image: &[u8], pass: Pass) -> Pass {
     let m = pass.scanner.next(image);
     let scanner = m.state;
     let a = m.answer;
@@ -160,17 +161,18 @@ pub fn next(out: &mut [u8], image: &[u8], pass: Pass) -> Pass {
 }
 
 // Answers until one is no entry: of sixteen parts of a batch's bytes, fewer than a million.
-fn entries(out: &mut [u8], image: &[u8], pass: Pass) -> Pass {
+fn entries(out: &mut Output, image: &[u8], pass: Pass) -> Pass {
     let mut now = pass;
-    let mut left: u64 = 1000000;
-    while 0 < left && now.more {
+    for _ in 0..1000000 {
+        if !now.more {
+            break;
+        }
         now = next(out, image, now);
-        left -= 1;
     }
     now
 }
 
-fn lines(out: &mut [u8], image: &[u8], pass: Pass) -> Run {
+fn lines(out: &mut Output, image: &[u8], pass: Pass) -> Run {
     let now = entries(out, image, pass);
     if now.refused {
         let again = next(out, image, now);
@@ -179,12 +181,12 @@ fn lines(out: &mut [u8], image: &[u8], pass: Pass) -> Run {
     now.run
 }
 
-fn all(out: &mut [u8], image: &[u8], pass: Pass) -> Run {
+fn all(out: &mut Output, image: &[u8], pass: Pass) -> Run {
     let run = lines(out, image, pass);
     agreed(out, run, agree(image, pass.scanner))
 }
 
-pub fn merged(batch: &[u8], out: &mut [u8], run: Run) -> Run {
+pub fn merged(batch: &[u8], out: &mut Output, run: Run) -> Run {
     let f = field(batch, run);
     let pass = table(batch, f.run);
     let run = pass.run;

@@ -1,51 +1,75 @@
 // Answer lines. Bytes wait in a buffer, which is written when it is full.
 use crate::run::Run;
-use libc::STDOUT_FILENO;
+use itoa::Buffer;
 use numbers::bytes::part;
+use std::io;
+use std::io::Stdout;
 
-fn store(out: &mut [u8], at: usize, byte: u8) {
-    if at < out.len() {
-        out[at] = byte;
+// Standard output, the bytes that wait for it, and the first failure to write: after it nothing is written.
+#[derive(Drop)]
+pub struct Output {
+    to: Stdout,
+    bytes: [u8; 65536],
+    pub written: io::Result<()>,
+}
+
+impl Output {
+    pub fn new(to: Stdout) -> Self {
+        Output {
+            to,
+            bytes: [0; 65536],
+            written: Ok(()),
+        }
     }
 }
 
-pub fn put(out: &mut [u8], run: Run, byte: u8) -> Run {
+fn store(out: &mut Output, at: usize, byte: u8) {
+    if at < out.bytes.len() {
+        out.bytes[at] = byte;
+    }
+}
+
+// The first n bytes of the buffer are written.
+fn write(out: &mut Output, n: usize) {
+    if out.written.is_ok() {
+        out.written = out.to.write_all(part(&out.bytes, 0, n));
+    }
+}
+
+pub fn put(out: &mut Output, run: Run, byte: u8) -> Run {
     let held = run.held;
-    if held < out.len() {
+    if held < out.bytes.len() {
         store(out, held, byte);
         return run.holding(held + 1);
     }
-    io::write_all(STDOUT_FILENO, out);
+    write(out, held);
     store(out, 0, byte);
     run.holding(1)
 }
 
 // What waits is written.
-pub fn flush(out: &[u8], run: Run) -> Run {
-    io::write_all(STDOUT_FILENO, part(out, 0, run.held));
+pub fn flush(out: &mut Output, run: Run) -> Run {
+    write(out, run.held);
     run.holding(0)
 }
 
-pub fn text(out: &mut [u8], run: Run, bytes: &[u8]) -> Run {
+pub fn text(out: &mut Output, run: Run, bytes: &[u8]) -> Run {
     let mut now = run;
-    let mut i = 0;
-    while i < bytes.len() {
-        now = put(out, now, bytes[i]);
-        i += 1;
+    for byte in bytes {
+        now = put(out, now, *byte);
     }
     now
 }
 
-pub fn end(out: &mut [u8], run: Run) -> Run {
+pub fn end(out: &mut Output, run: Run) -> Run {
     put(out, run, b'\n')
 }
 
 // A space and a number.
-pub fn decimal(out: &mut [u8], run: Run, x: u64) -> Run {
-    let mut digits = [0u8; 20];
-    let n = io::decimal(x, &mut digits);
+pub fn decimal(out: &mut Output, run: Run, x: u64) -> Run {
+    let mut digits = Buffer::new();
     let run = put(out, run, b' ');
-    text(out, run, &digits[..n])
+    text(out, run, digits.format(x).as_bytes())
 }
 
 fn digit(x: u8) -> u8 {
@@ -53,23 +77,21 @@ fn digit(x: u8) -> u8 {
     if d < 10 { 48 + d } else { 87 + d }
 }
 
-fn pair(out: &mut [u8], run: Run, byte: u8) -> Run {
+fn pair(out: &mut Output, run: Run, byte: u8) -> Run {
     let run = put(out, run, digit(byte / 16));
     put(out, run, digit(byte))
 }
 
-fn pairs(out: &mut [u8], run: Run, bytes: &[u8]) -> Run {
+fn pairs(out: &mut Output, run: Run, bytes: &[u8]) -> Run {
     let mut now = run;
-    let mut i = 0;
-    while i < bytes.len() {
-        now = pair(out, now, bytes[i]);
-        i += 1;
+    for byte in bytes {
+        now = pair(out, now, *byte);
     }
     now
 }
 
 // A space and the bytes in hexadecimal, or `-` for none.
-pub fn hex(out: &mut [u8], run: Run, bytes: &[u8]) -> Run {
+pub fn hex(out: &mut Output, run: Run, bytes: &[u8]) -> Run {
     let run = put(out, run, b' ');
     if bytes.len() == 0 {
         return put(out, run, b'-');
@@ -78,25 +100,25 @@ pub fn hex(out: &mut [u8], run: Run, bytes: &[u8]) -> Run {
 }
 
 // A word and a number, as a line.
-pub fn line(out: &mut [u8], run: Run, word: &[u8], x: u64) -> Run {
+pub fn line(out: &mut Output, run: Run, word: &[u8], x: u64) -> Run {
     let run = text(out, run, word);
     let run = decimal(out, run, x);
     end(out, run)
 }
 
-pub fn refused(out: &mut [u8], run: Run, number: u64) -> Run {
+pub fn refused(out: &mut Output, run: Run, number: u64) -> Run {
     line(out, run, b"refused", number)
 }
 
 // A buffer's bytes, as a line.
-pub fn whole(out: &mut [u8], run: Run, bytes: &[u8]) -> Run {
+pub fn whole(out: &mut Output, run: Run, bytes: &[u8]) -> Run {
     let run = text(out, run, b"bytes");
     let run = hex(out, run, bytes);
     end(out, run)
 }
 
 // Whether both forms of a call gave the same.
-pub fn agreed(out: &mut [u8], run: Run, same: bool) -> Run {
+pub fn agreed(out: &mut Output, run: Run, same: bool) -> Run {
     if same {
         return run;
     }

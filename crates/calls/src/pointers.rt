@@ -1,7 +1,7 @@
 // The letters I and i: an indirection written and read.
 use crate::groups::wrote;
 use crate::input::{bounded, field, number, short};
-use crate::output::{decimal, end, refused, text, whole};
+use crate::output::{Output, decimal, end, refused, text, whole};
 use crate::run::Run;
 use numbers::bytes::part;
 use numbers::handle::{BlobIndirection, ReadIndirection, ValueHandle};
@@ -46,14 +46,14 @@ fn write_within(room: &mut [u8], n: usize, p: BlobIndirection) -> Wrote {
     p.encode(&mut room[..n], 0)
 }
 
-fn made(out: &mut [u8], run: Run, p: BlobIndirection, n: usize) -> Run {
+fn made(out: &mut Output, run: Run, p: BlobIndirection, n: usize) -> Run {
     let mut room = [0xEEu8; 64];
     let w = write_within(&mut room, n, p);
     let run = wrote(out, run, w);
     whole(out, run, part(&room, 0, n))
 }
 
-pub fn written(batch: &[u8], out: &mut [u8], run: Run) -> Run {
+pub fn written(batch: &[u8], out: &mut Output, run: Run) -> Run {
     let p = pointer(batch, run);
     let room = bounded(batch, p.run, 64);
     let run = room.run;
@@ -64,7 +64,7 @@ pub fn written(batch: &[u8], out: &mut [u8], run: Run) -> Run {
 }
 
 // An indirection's numbers: id, offset, on-disk size and stated length.
-pub fn numbers_of(out: &mut [u8], run: Run, p: BlobIndirection) -> Run {
+pub fn numbers_of(out: &mut Output, run: Run, p: BlobIndirection) -> Run {
     let h = p.handle;
     let run = decimal(out, run, h.file);
     let run = decimal(out, run, h.offset);
@@ -72,14 +72,14 @@ pub fn numbers_of(out: &mut [u8], run: Run, p: BlobIndirection) -> Run {
     decimal(out, run, p.stated as u64)
 }
 
-fn found(out: &mut [u8], run: Run, p: BlobIndirection, used: usize) -> Run {
+fn found(out: &mut Output, run: Run, p: BlobIndirection, used: usize) -> Run {
     let run = text(out, run, b"ptr");
     let run = numbers_of(out, run, p);
     let run = decimal(out, run, used as u64);
     end(out, run)
 }
 
-pub fn read(batch: &[u8], out: &mut [u8], run: Run) -> Run {
+pub fn read(batch: &[u8], out: &mut Output, run: Run) -> Run {
     let f = field(batch, run);
     let run = f.run;
     if !run.well {

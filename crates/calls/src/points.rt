@@ -1,7 +1,7 @@
 // The letter P: a point read.
 use crate::input::{field, number, short};
 use crate::output;
-use crate::output::{agreed, end, hex, text};
+use crate::output::{Output, agreed, end, hex, text};
 use crate::run::Run;
 use crate::scans::sums;
 use crate::told::{point, same};
@@ -12,18 +12,18 @@ use numbers::bytes::part;
 use numbers::cut::CutShort;
 use numbers::handle::ValueHandle;
 
-fn found(out: &mut [u8], run: Run, bytes: &[u8]) -> Run {
+fn found(out: &mut Output, run: Run, bytes: &[u8]) -> Run {
     let run = text(out, run, b"value");
     let run = hex(out, run, bytes);
     end(out, run)
 }
 
-fn mismatch(out: &mut [u8], run: Run, told: Told) -> Run {
+fn mismatch(out: &mut Output, run: Run, told: Told) -> Run {
     let run = text(out, run, b"refused 9");
     sums(out, run, told.stored, told.computed)
 }
 
-fn answered(out: &mut [u8], run: Run, file: &[u8], told: Told) -> Run {
+fn answered(out: &mut Output, run: Run, file: &[u8], told: Told) -> Run {
     let number = told.number;
     match number {
         0 => found(out, run, value(file, told)),
@@ -37,12 +37,10 @@ fn stands(s: &[u8], i: usize, byte: u8) -> bool {
 }
 
 fn same_bytes(a: &[u8], b: &[u8]) -> bool {
-    let mut i = 0;
-    while i < a.len() {
-        if !stands(b, i, a[i]) {
+    for (i, byte) in a.iter().enumerate() {
+        if !stands(b, i, *byte) {
             return false;
         }
-        i += 1;
     }
     a.len() == b.len()
 }
@@ -78,7 +76,7 @@ fn unread() -> Told {
     }
 }
 
-fn both(out: &mut [u8], run: Run, file: &[u8], key: &[u8], handle: ValueHandle) -> Run {
+fn both(out: &mut Output, run: Run, file: &[u8], key: &[u8], handle: ValueHandle) -> Run {
     let told = look(file, key, handle);
     let run = answered(out, run, file, told);
     agreed(out, run, agrees(file, key, handle, unread(), told))
@@ -104,7 +102,7 @@ fn handled(batch: &[u8], run: Run) -> Aim {
     Aim { handle, run }
 }
 
-pub fn pointed(batch: &[u8], out: &mut [u8], run: Run) -> Run {
+pub fn pointed(batch: &[u8], out: &mut Output, run: Run) -> Run {
     let f = field(batch, run);
     let k = field(batch, f.run);
     let h = handled(batch, k.run);

@@ -1,8 +1,9 @@
 // The records of a batch, by their letters.
+use crate::output::Output;
 use crate::run::Run;
 use crate::{drains, files, groups, hashes, maps, merges, pointers, points, scans};
 
-fn answer(batch: &[u8], out: &mut [u8], run: Run, letter: u8) -> Run {
+fn answer(batch: &[u8], out: &mut Output, run: Run, letter: u8) -> Run {
     match letter {
         b'H' => hashes::joined(batch, out, run),
         b'h' => hashes::one(batch, out, run),
@@ -20,7 +21,7 @@ fn answer(batch: &[u8], out: &mut [u8], run: Run, letter: u8) -> Run {
     }
 }
 
-fn one(batch: &[u8], out: &mut [u8], run: Run) -> Run {
+fn one(batch: &[u8], out: &mut Output, run: Run) -> Run {
     let at = run.at;
     if at < batch.len() {
         return answer(batch, out, run.to(at + 1), batch[at]);
@@ -28,12 +29,13 @@ fn one(batch: &[u8], out: &mut [u8], run: Run) -> Run {
     run
 }
 
-pub fn all(batch: &[u8], out: &mut [u8], run: Run) -> Run {
+pub fn all(batch: &[u8], out: &mut Output, run: Run) -> Run {
     let mut now = run;
-    let mut left = batch.len();
-    while 0 < left && now.well && now.at < batch.len() {
+    for _ in 0..batch.len() {
+        if !now.well || batch.len() <= now.at {
+            break;
+        }
         now = one(batch, out, now);
-        left -= 1;
     }
     now
 }

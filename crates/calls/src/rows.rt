@@ -2,6 +2,7 @@
 use crate::told::{merged, rowed, same};
 use merge::parts::{MergeScanner, Part};
 use merge::rows::RowsAnswer;
+use numbers::bytes::lesser;
 
 // Both forms' states, whether they agreed so far, and whether they go on.
 #[derive(Clone, Copy)]
@@ -20,10 +21,8 @@ fn get(rows: &[u64], i: usize) -> u64 {
 fn row(rows: &[u64], i: usize) -> [u64; 10] {
     let from = i % 4 * 9;
     let mut r = [0u64; 10];
-    let mut k = 0;
-    while k < 9 {
+    for k in 0..9 {
         r[k] = get(rows, from + k);
-        k += 1;
     }
     r
 }
@@ -42,14 +41,10 @@ fn same_part(a: Part, b: Part) -> bool {
 }
 
 fn same_state(a: MergeScanner, b: MergeScanner) -> bool {
-    let mut i = 0;
-    while i < 16 {
-        let p = a.parts[i];
-        let q = b.parts[i];
-        if !same_part(p, q) {
+    for i in 0..16 {
+        if !same_part(a.parts[i], b.parts[i]) {
             return false;
         }
-        i += 1;
     }
     a.count == b.count
 }
@@ -72,10 +67,8 @@ fn beside(image: &[u8], rows: &[u64], twin: Twin, i: usize) -> Twin {
 // The rows that were written, four at most.
 fn each(image: &[u8], rows: &[u64], twin: Twin, n: usize) -> Twin {
     let mut now = twin;
-    let mut i = 0;
-    while i < n && i < 4 {
+    for i in 0..lesser(n, 4) {
         now = beside(image, rows, now, i);
-        i += 1;
     }
     now
 }
@@ -137,10 +130,11 @@ pub fn agree(image: &[u8], scanner: MergeScanner) -> bool {
         same: true,
         more: true,
     };
-    let mut left: u64 = 1000000;
-    while 0 < left && now.more {
+    for _ in 0..1000000 {
+        if !now.more {
+            break;
+        }
         now = turn(image, now);
-        left -= 1;
     }
     now.same
 }

@@ -1,7 +1,7 @@
 // The letter S: a file scanned from its first byte.
 use crate::hashes::sum;
 use crate::input::field;
-use crate::output::{agreed, decimal, end, hex, line, text};
+use crate::output::{Output, agreed, decimal, end, hex, line, text};
 use crate::run::Run;
 use crate::told::{same, scanned};
 use frames::held::held_step;
@@ -19,18 +19,18 @@ struct Scan {
 }
 
 // A place's bytes, in hexadecimal.
-pub fn bytes_at(out: &mut [u8], run: Run, file: &[u8], p: Place) -> Run {
+pub fn bytes_at(out: &mut Output, run: Run, file: &[u8], p: Place) -> Run {
     hex(out, run, part(file, p.at, p.len))
 }
 
 // A key's bytes and a value's, to the line's end.
-pub fn both_at(out: &mut [u8], run: Run, file: &[u8], key: Place, value: Place) -> Run {
+pub fn both_at(out: &mut Output, run: Run, file: &[u8], key: Place, value: Place) -> Run {
     let run = bytes_at(out, run, file, key);
     let run = bytes_at(out, run, file, value);
     end(out, run)
 }
 
-fn lengths(out: &mut [u8], run: Run, file: &[u8], e: ScanEntry) -> Run {
+fn lengths(out: &mut Output, run: Run, file: &[u8], e: ScanEntry) -> Run {
     let key = e.key;
     let value = e.value;
     let run = decimal(out, run, e.stated as u64);
@@ -38,7 +38,7 @@ fn lengths(out: &mut [u8], run: Run, file: &[u8], e: ScanEntry) -> Run {
     both_at(out, run, file, key, value)
 }
 
-fn entry(out: &mut [u8], run: Run, file: &[u8], e: ScanEntry) -> Run {
+fn entry(out: &mut Output, run: Run, file: &[u8], e: ScanEntry) -> Run {
     let run = text(out, run, b"entry");
     let run = decimal(out, run, e.offset as u64);
     let run = decimal(out, run, e.seqno);
@@ -46,13 +46,13 @@ fn entry(out: &mut [u8], run: Run, file: &[u8], e: ScanEntry) -> Run {
 }
 
 // Both sums, the stored one first.
-pub fn sums(out: &mut [u8], run: Run, stored: Hash128, computed: Hash128) -> Run {
+pub fn sums(out: &mut Output, run: Run, stored: Hash128, computed: Hash128) -> Run {
     let run = sum(out, run, stored);
     let run = sum(out, run, computed);
     end(out, run)
 }
 
-fn closed(out: &mut [u8], run: Run, why: ScanRefusal) -> Run {
+fn closed(out: &mut Output, run: Run, why: ScanRefusal) -> Run {
     match why {
         ScanRefusal::CutShort(_) => end(out, run),
         ScanRefusal::InvalidHeader { at: _ } => end(out, run),
@@ -65,7 +65,7 @@ fn closed(out: &mut [u8], run: Run, why: ScanRefusal) -> Run {
 }
 
 // A refused scan, with a number that says where.
-pub fn refusal(out: &mut [u8], run: Run, why: ScanRefusal, x: u64) -> Run {
+pub fn refusal(out: &mut Output, run: Run, why: ScanRefusal, x: u64) -> Run {
     let run = text(out, run, b"refused");
     let run = decimal(out, run, why.number());
     let run = decimal(out, run, x);
@@ -97,7 +97,7 @@ fn is_cut(why: ScanRefusal) -> bool {
     }
 }
 
-fn answered(out: &mut [u8], run: Run, file: &[u8], a: Scanned, from: usize) -> Scan {
+fn answered(out: &mut Output, run: Run, file: &[u8], a: Scanned, from: usize) -> Scan {
     match a {
         Scanned::Entry(e, scanner) => Scan {
             scanner,
@@ -118,7 +118,7 @@ fn answered(out: &mut [u8], run: Run, file: &[u8], a: Scanned, from: usize) -> S
 }
 
 // The step, and the same by a scanner that holds the file.
-fn step(out: &mut [u8], file: &[u8], scan: Scan) -> Scan {
+fn step(out: &mut Output, file: &[u8], scan: Scan) -> Scan {
     let from = scan.scanner;
     let a = from.step(file);
     let held = held_step(file, from);
@@ -133,21 +133,22 @@ fn step(out: &mut [u8], file: &[u8], scan: Scan) -> Scan {
 }
 
 // A scan is over within a quarter as many steps as the file has bytes, and one.
-fn steps(out: &mut [u8], run: Run, file: &[u8]) -> Run {
+fn steps(out: &mut Output, run: Run, file: &[u8]) -> Run {
     let mut now = Scan {
         scanner: Scanner::new(),
         more: true,
         run,
     };
-    let mut left = file.len() / 4 + 1;
-    while 0 < left && now.more {
+    for _ in 0..file.len() / 4 + 1 {
+        if !now.more {
+            break;
+        }
         now = step(out, file, now);
-        left -= 1;
     }
     now.run
 }
 
-pub fn file(batch: &[u8], out: &mut [u8], run: Run) -> Run {
+pub fn file(batch: &[u8], out: &mut Output, run: Run) -> Run {
     let f = field(batch, run);
     let run = f.run;
     if !run.well {

@@ -2,14 +2,14 @@
 use crate::counts::ok;
 use crate::input::{bounded, field, number, short};
 use crate::maps::{Step, kept};
-use crate::output::{line, refused, whole};
+use crate::output::{Output, line, refused, whole};
 use crate::run::Run;
 use garbage::map::FragmentationMap;
 use garbage::pruned::PruneAnswer;
 use garbage::stored::{LoadAnswer, StoreRefusal, Stored};
 use numbers::bytes::part;
 
-fn line_of(out: &mut [u8], run: Run, a: Stored) -> Run {
+fn line_of(out: &mut Output, run: Run, a: Stored) -> Run {
     match a {
         Stored::Used(used) => line(out, run, b"used", used as u64),
         Stored::Refused(why) => refused(out, run, why.number()),
@@ -23,14 +23,14 @@ fn store_within(room: &mut [u8], n: usize, map: FragmentationMap) -> Stored {
     map.store(&mut room[..n])
 }
 
-fn shown(out: &mut [u8], run: Run, map: FragmentationMap, n: usize) -> Run {
+fn shown(out: &mut Output, run: Run, map: FragmentationMap, n: usize) -> Run {
     let mut room = [0xEEu8; 4096];
     let a = store_within(&mut room, n, map);
     let run = line_of(out, run, a);
     whole(out, run, part(&room, 0, n))
 }
 
-pub fn stored(batch: &[u8], out: &mut [u8], run: Run, map: FragmentationMap) -> Run {
+pub fn stored(batch: &[u8], out: &mut Output, run: Run, map: FragmentationMap) -> Run {
     let n = bounded(batch, run, 4096);
     let run = n.run;
     if !run.well {
@@ -40,7 +40,7 @@ pub fn stored(batch: &[u8], out: &mut [u8], run: Run, map: FragmentationMap) -> 
 }
 
 // The map that was read; refused, the one that was there.
-fn load(out: &mut [u8], step: Step, bytes: &[u8]) -> Step {
+fn load(out: &mut Output, step: Step, bytes: &[u8]) -> Step {
     let l = FragmentationMap::load(bytes);
     let a = l.answer;
     let run = step.run;
@@ -56,7 +56,7 @@ fn load(out: &mut [u8], step: Step, bytes: &[u8]) -> Step {
     }
 }
 
-pub fn loaded(batch: &[u8], out: &mut [u8], step: Step) -> Step {
+pub fn loaded(batch: &[u8], out: &mut Output, step: Step) -> Step {
     let f = field(batch, step.run);
     let run = f.run;
     let step = kept(step, step.map, run);
@@ -76,17 +76,15 @@ struct Ids {
 fn listing(batch: &[u8], run: Run, count: u64) -> Ids {
     let mut ids = [0u64; 256];
     let mut now = run;
-    let mut i: u64 = 0;
-    while i < count && i < 256 {
+    for i in 0..count.min(256) {
         let n = number(batch, now);
         ids[i as usize] = n.value;
         now = n.run;
-        i += 1;
     }
     Ids { ids, run: now }
 }
 
-fn prune_line(out: &mut [u8], run: Run, a: PruneAnswer) -> Run {
+fn prune_line(out: &mut Output, run: Run, a: PruneAnswer) -> Run {
     match a {
         PruneAnswer::Done => ok(out, run),
         PruneAnswer::MapFull => refused(out, run, a.number()),
@@ -97,14 +95,14 @@ fn front(ids: &[u64], n: usize) -> &[u64] {
     if n < ids.len() { &ids[..n] } else { ids }
 }
 
-fn prune(out: &mut [u8], step: Step, ids: &[u64]) -> Step {
+fn prune(out: &mut Output, step: Step, ids: &[u64]) -> Step {
     let p = step.map.prune(ids);
     let a = p.answer;
     let run = prune_line(out, step.run, a);
     kept(step, p.map, run)
 }
 
-pub fn pruned(batch: &[u8], out: &mut [u8], step: Step) -> Step {
+pub fn pruned(batch: &[u8], out: &mut Output, step: Step) -> Step {
     let n = bounded(batch, step.run, 256);
     let l = listing(batch, n.run, n.value);
     let run = l.run;
@@ -159,10 +157,11 @@ pub fn told(batch: &[u8], step: Step) -> Step {
     let mut map = FragmentationMap::new();
     map.count = count.value as usize;
     let mut now = kept(step, map, count.run);
-    let mut i: u64 = 0;
-    while i < count.value && now.run.well {
+    for i in 0..count.value {
+        if !now.run.well {
+            break;
+        }
         now = entry(batch, now, i);
-        i += 1;
     }
     now
 }

@@ -8,12 +8,10 @@ use merge::rows::{RowsAnswer, RowsRefusal};
 use numbers::cut::CutShort;
 
 pub fn same(a: [u64; 10], b: [u64; 10]) -> bool {
-    let mut i = 0;
-    while i < 10 {
+    for i in 0..10 {
         if a[i] != b[i] {
             return false;
         }
-        i += 1;
     }
     true
 }

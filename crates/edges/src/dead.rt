@@ -7,100 +7,119 @@ use garbage::verdict::{DeadVerdict, StaleVerdict, is_dead, is_stale};
 use numbers::bytes::part;
 use numbers::handle::BlobIndirection;
 use numbers::leb128::Wrote;
+use std::io;
 
 const FILE: u64 = 7;
 
 // The map after a drop of the pointer, as the bytes that it is spelled in.
-fn dropped(m: FragmentationMap, p: BlobIndirection) -> FragmentationMap {
+fn dropped(
+    rt: &impl Print,
+    m: FragmentationMap,
+    p: BlobIndirection,
+) -> io::Result<FragmentationMap> {
     let mut bytes = [0u8; 32];
     let w = p.encode(&mut bytes, 0);
     let Wrote::Used(n) = w else {
-        refused(w.number());
-        return m;
+        refused(rt, w.number())?;
+        return Ok(m);
     };
     let d = m.drop_record(true, part(&bytes, 0, n));
     let a = d.answer;
     match a {
-        RecordAnswer::Done => say(b" dropped"),
-        RecordAnswer::Refused(why) => refused(why.number()),
+        RecordAnswer::Done => say(rt, b" dropped")?,
+        RecordAnswer::Refused(why) => refused(rt, why.number())?,
     }
-    d.map
+    Ok(d.map)
 }
 
-fn verdict(v: DeadVerdict) {
+fn verdict(rt: &impl Print, v: DeadVerdict) -> io::Result<()> {
     match v {
-        DeadVerdict::Dead => say(b" dead"),
-        DeadVerdict::Wanted => say(b" wanted"),
-        DeadVerdict::NoEntry => say(b" no entry"),
-        DeadVerdict::Refused => refused(v.number()),
+        DeadVerdict::Dead => say(rt, b" dead"),
+        DeadVerdict::Wanted => say(rt, b" wanted"),
+        DeadVerdict::NoEntry => say(rt, b" no entry"),
+        DeadVerdict::Refused => refused(rt, v.number()),
     }
 }
 
-fn staleness(v: StaleVerdict) {
+fn staleness(rt: &impl Print, v: StaleVerdict) -> io::Result<()> {
     match v {
-        StaleVerdict::Stale(x) => say(b" stale"),
-        StaleVerdict::Kept(x) => say(b" kept"),
-        StaleVerdict::NoEntry => say(b" no entry"),
-        StaleVerdict::Refused => refused(v.number()),
+        StaleVerdict::Stale(x) => say(rt, b" stale"),
+        StaleVerdict::Kept(x) => say(rt, b" kept"),
+        StaleVerdict::NoEntry => say(rt, b" no entry"),
+        StaleVerdict::Refused => refused(rt, v.number()),
     }
 }
 
 // Dead, and stale at 1.0.
-fn judged(m: FragmentationMap, r: Report) {
-    verdict(is_dead(m, FILE, r));
-    staleness(is_stale(m, FILE, r, 1.0));
-    end();
+fn judged(rt: &impl Print, m: FragmentationMap, r: Report) -> io::Result<()> {
+    verdict(rt, is_dead(m, FILE, r))?;
+    staleness(rt, is_stale(m, FILE, r, 1.0))?;
+    end(rt)
 }
 
-fn reported(r: Report) {
-    say(b"report:");
-    number(r.items);
-    number(r.disk);
-    number(r.stated);
-    end();
+fn reported(rt: &impl Print, r: Report) -> io::Result<()> {
+    say(rt, b"report:")?;
+    number(rt, r.items)?;
+    number(rt, r.disk)?;
+    number(rt, r.stated)?;
+    end(rt)
 }
 
 // Both drops, in both orders.
-fn drops(long: BlobIndirection, empty: BlobIndirection, r: Report) {
+fn drops(
+    rt: &impl Print,
+    long: BlobIndirection,
+    empty: BlobIndirection,
+    r: Report,
+) -> io::Result<()> {
     let none = FragmentationMap::new();
-    say(b"nothing dropped:");
-    judged(none, r);
-    say(b"the 3:");
-    let first = dropped(none, long);
-    judged(first, r);
-    say(b"the 0:");
-    let second = dropped(none, empty);
-    judged(second, r);
-    say(b"the 0, then the 3:");
-    judged(dropped(second, long), r);
+    say(rt, b"nothing dropped:")?;
+    judged(rt, none, r)?;
+    say(rt, b"the 3:")?;
+    let first = dropped(rt, none, long)?;
+    judged(rt, first, r)?;
+    say(rt, b"the 0:")?;
+    let second = dropped(rt, none, empty)?;
+    judged(rt, second, r)?;
+    say(rt, b"the 0, then the 3:")?;
+    judged(rt, dropped(rt, second, long)?, r)
 }
 
-fn finished(buf: &mut [u8], w: Writer, long: BlobIndirection, empty: BlobIndirection) {
+fn finished(
+    rt: &impl Print,
+    buf: &mut [u8],
+    w: Writer,
+    long: BlobIndirection,
+    empty: BlobIndirection,
+) -> io::Result<()> {
     let c = w.finish(buf);
     match c {
         Closed::Done(_, r) => {
-            reported(r);
-            drops(long, empty, r);
+            reported(rt, r)?;
+            drops(rt, long, empty, r)
         }
-        Closed::Refused(why, _) => refused(why.number()),
+        Closed::Refused(why, _) => refused(rt, why.number()),
     }
 }
 
-pub fn edges() {
-    say(b"\na file of values 3 and 0 long is dead after dropping the 3\n");
+pub fn edges(rt: &impl Print) -> io::Result<()> {
+    say(
+        rt,
+        b"\na file of values 3 and 0 long is dead after dropping the 3\n",
+    )?;
     let mut buf = [0u8; 85];
     let a = Writer::new(FILE).append(&mut buf, b"a", 7, b"xyz");
     let Appended::Put(long, w) = a else {
-        return;
+        return Ok(());
     };
     let b = w.append(&mut buf, b"b", 9, b"");
     let Appended::Put(empty, w) = b else {
-        return;
+        return Ok(());
     };
-    say(b"pointers:");
-    pointer(long);
-    say(b",");
-    pointer(empty);
-    end();
-    finished(&mut buf, w, long, empty);
+    say(rt, b"pointers:")?;
+    pointer(rt, long)?;
+    say(rt, b",")?;
+    pointer(rt, empty)?;
+    end(rt)?;
+    finished(rt, &mut buf, w, long, empty)
 }

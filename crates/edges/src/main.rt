@@ -7,9 +7,11 @@ mod keys;
 mod places;
 mod say;
 
-fn main() {
-    keys::edges();
-    dead::edges();
-    cuts::edges();
-    places::edges();
+use std::io;
+
+fn main(rt: HostRuntime) -> io::Result<()> {
+    keys::edges(&rt)?;
+    dead::edges(&rt)?;
+    cuts::edges(&rt)?;
+    places::edges(&rt)
 }

@@ -1,60 +1,52 @@
 // Words and numbers on standard output.
-use libc::STDOUT_FILENO;
 use numbers::cut::CutShort;
 use numbers::handle::BlobIndirection;
+use std::io;
 
-pub fn say(words: &[u8]) {
-    io::write_all(STDOUT_FILENO, words);
+pub fn say(rt: &impl Print, words: &[u8]) -> io::Result<()> {
+    rt.write_all(words)
 }
 
-pub fn end() {
-    say(b"\n");
+pub fn end(rt: &impl Print) -> io::Result<()> {
+    say(rt, b"\n")
 }
 
 // A space and a number.
-pub fn number(x: u64) {
-    say(b" ");
-    io::print_decimal(STDOUT_FILENO, x);
+pub fn number(rt: &impl Print, x: u64) -> io::Result<()> {
+    print!(rt; " {x}")
 }
 
-pub fn refused(x: u64) {
-    say(b" refused");
-    number(x);
+pub fn refused(rt: &impl Print, x: u64) -> io::Result<()> {
+    say(rt, b" refused")?;
+    number(rt, x)
 }
 
 // Where reading began, the bytes needed and the bytes present.
-pub fn cut(c: CutShort) {
-    number(c.at as u64);
-    number(c.needed as u64);
-    number(c.present as u64);
+pub fn cut(rt: &impl Print, c: CutShort) -> io::Result<()> {
+    number(rt, c.at as u64)?;
+    number(rt, c.needed as u64)?;
+    number(rt, c.present as u64)
 }
 
 // Whether what a refusal hands back is what came in.
-pub fn same(right: bool) {
+pub fn same(rt: &impl Print, right: bool) -> io::Result<()> {
     if right {
-        say(b" same");
+        say(rt, b" same")
     } else {
-        say(b" CHANGED");
+        say(rt, b" CHANGED")
     }
 }
 
 // File id, offset, on-disk and stated length.
-pub fn pointer(p: BlobIndirection) {
+pub fn pointer(rt: &impl Print, p: BlobIndirection) -> io::Result<()> {
     let h = p.handle;
-    number(h.file);
-    number(h.offset);
-    number(h.size as u64);
-    number(p.stated as u64);
+    number(rt, h.file)?;
+    number(rt, h.offset)?;
+    number(rt, h.size as u64)?;
+    number(rt, p.stated as u64)
 }
 
 // Whether every byte is x.
 pub fn all(bytes: &[u8], x: u8) -> bool {
-    let mut i = 0;
-    while i < bytes.len() {
-        if bytes[i] != x {
-            return false;
-        }
-        i += 1;
-    }
-    true
+    bytes.iter().all(|b| *b == x)
 }

@@ -5,48 +5,47 @@
 use frames::reader::{look, value};
 use frames::scanner::{ScanEntry, Scanned, Scanner};
 use frames::writer::{Appended, Writer};
-use libc::STDOUT_FILENO;
 use numbers::bytes::part;
+use std::io;
 
-fn say(text: &[u8]) {
-    io::write_all(STDOUT_FILENO, text);
+fn say(rt: &impl Print, text: &[u8]) -> io::Result<()> {
+    rt.write_all(text)
 }
 
-fn entry(file: &[u8], e: ScanEntry) {
+fn entry(rt: &impl Print, file: &[u8], e: ScanEntry) -> io::Result<()> {
     let key = e.key;
-    say(b"frame at byte ");
-    io::print_decimal(STDOUT_FILENO, e.offset as u64);
-    say(b", key ");
-    say(part(file, key.at, key.len));
-    say(b"\n");
+    print!(rt; "frame at byte {}, key ", e.offset)?;
+    say(rt, part(file, key.at, key.len))?;
+    println!(rt)
 }
 
 // Every step but the last moves on, so a scan is over within as many steps as the file has bytes.
-fn list(file: &[u8]) {
+fn list(rt: &impl Print, file: &[u8]) -> io::Result<()> {
     let mut scanner = Scanner::new();
     for _ in 0..file.len() {
         let Scanned::Entry(e, next) = scanner.step(file) else {
-            return;
+            return Ok(());
         };
-        entry(file, e);
+        entry(rt, file, e)?;
         scanner = next;
     }
+    Ok(())
 }
 
 // A refusal has a case of its own in every answer; here it ends the program.
-fn main() {
+fn main(rt: HostRuntime) -> io::Result<()> {
     let mut file = [0; 256];
     let w = Writer::new(1);
     let Appended::Put(engine, w) = w.append(&mut file, b"engine", 7, b"image of the engine") else {
-        return;
+        return Ok(());
     };
     let Appended::Put(_, w) = w.append(&mut file, b"brakes", 9, b"image of the brakes") else {
-        return;
+        return Ok(());
     };
     w.finish(&mut file);
-    list(&file);
+    list(&rt, &file)?;
     let told = look(&file, b"engine", engine.handle);
-    say(b"engine, by its handle: ");
-    say(value(&file, told));
-    say(b"\n");
+    print!(rt; "engine, by its handle: ")?;
+    say(&rt, value(&file, told))?;
+    println!(rt)
 }

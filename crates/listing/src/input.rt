@@ -1,6 +1,6 @@
 // Standard input, read until it ends or the buffer is full. A read that fails is told apart from the end.
-use libc::STDIN_FILENO;
 use numbers::bytes::{lesser, room};
+use std::io;
 
 #[derive(Clone, Copy)]
 pub enum Input {
@@ -16,15 +16,13 @@ enum Read {
     Failed,
 }
 
-fn once(bytes: &mut [u8], at: usize) -> Read {
+fn once(from: &mut impl io::Read, bytes: &mut [u8], at: usize) -> Read {
     if bytes.len() <= at {
         return Read::End;
     }
-    let got = libc::read(STDIN_FILENO, &mut bytes[at..]);
-    if got < 0 {
+    let Ok(n) = from.read(&mut bytes[at..]) else {
         return Read::Failed;
-    }
-    let n = io::count(got, bytes);
+    };
     if n == 0 {
         return Read::End;
     }
@@ -32,17 +30,14 @@ fn once(bytes: &mut [u8], at: usize) -> Read {
 }
 
 // Each read but the last moves at least one byte.
-pub fn filled(bytes: &mut [u8]) -> Input {
+pub fn filled(from: &mut impl io::Read, bytes: &mut [u8]) -> Input {
     let mut at = 0;
-    let mut turns = bytes.len();
-    while 0 < turns {
-        let r = once(bytes, at);
-        match r {
+    for _ in 0..bytes.len() {
+        match once(from, bytes, at) {
             Read::To(next) => at = next,
             Read::End => return Input::Bytes(at),
             Read::Failed => return Input::Failed,
         }
-        turns -= 1;
     }
     Input::Bytes(at)
 }

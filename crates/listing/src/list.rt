@@ -1,6 +1,6 @@
 // The list: a line for each frame, and one for the end or the refusal that ends it.
 use frames::scanner::{ScanEntry, Scanned, Scanner};
-use libc::STDOUT_FILENO;
+use std::io;
 
 // Where the next step begins, or that the list is over.
 #[derive(Clone, Copy)]
@@ -9,76 +9,74 @@ enum Turn {
     Over,
 }
 
-fn number(x: u64) {
-    io::print_decimal(STDOUT_FILENO, x);
+fn number(rt: &impl Print, x: u64) -> io::Result<()> {
+    print!(rt; "{x}")
 }
 
-fn space() {
-    io::write_all(STDOUT_FILENO, b" ");
+fn space(rt: &impl Print) -> io::Result<()> {
+    print!(rt; " ")
 }
 
-fn end_line() {
-    io::write_all(STDOUT_FILENO, b"\n");
+fn end_line(rt: &impl Print) -> io::Result<()> {
+    println!(rt)
 }
 
 // Two numbers of a line, each with a space before it.
-fn pair(a: u64, b: u64) {
-    space();
-    number(a);
-    space();
-    number(b);
+fn pair(rt: &impl Print, a: u64, b: u64) -> io::Result<()> {
+    space(rt)?;
+    number(rt, a)?;
+    space(rt)?;
+    number(rt, b)
 }
 
 // Offset, key length, seqno, stated and on-disk length.
-fn entry(e: ScanEntry) {
-    number(e.offset as u64);
-    pair(e.key.len as u64, e.seqno);
-    pair(e.stated as u64, e.value.len as u64);
-    end_line();
+fn entry(rt: &impl Print, e: ScanEntry) -> io::Result<()> {
+    number(rt, e.offset as u64)?;
+    pair(rt, e.key.len as u64, e.seqno)?;
+    pair(rt, e.stated as u64, e.value.len as u64)?;
+    end_line(rt)
 }
 
-fn end(at: usize) {
-    io::write_all(STDOUT_FILENO, b"end ");
-    number(at as u64);
-    end_line();
+fn end(rt: &impl Print, at: usize) -> io::Result<()> {
+    print!(rt; "end ")?;
+    number(rt, at as u64)?;
+    end_line(rt)
 }
 
 // The refusal's number and the offset where its step began.
-fn refused(why: u64, at: usize) {
-    io::write_all(STDOUT_FILENO, b"refused");
-    pair(why, at as u64);
-    end_line();
+fn refused(rt: &impl Print, why: u64, at: usize) -> io::Result<()> {
+    print!(rt; "refused")?;
+    pair(rt, why, at as u64)?;
+    end_line(rt)
 }
 
 // One step, and its line.
-fn one_step(file: &[u8], at: usize) -> Turn {
+fn one_step(rt: &impl Print, file: &[u8], at: usize) -> io::Result<Turn> {
     let found = Scanner { at, ended: false }.step(file);
     match found {
         Scanned::Entry(e, next) => {
-            entry(e);
-            Turn::On(next.at)
+            entry(rt, e)?;
+            Ok(Turn::On(next.at))
         }
         Scanned::End { at: place, next: _ } => {
-            end(place);
-            Turn::Over
+            end(rt, place)?;
+            Ok(Turn::Over)
         }
         Scanned::Refused(why, _) => {
-            refused(why.number(), at);
-            Turn::Over
+            refused(rt, why.number(), at)?;
+            Ok(Turn::Over)
         }
     }
 }
 
 // A scan of n bytes is over within n/4 + 1 steps.
-pub fn list(file: &[u8]) {
+pub fn list(rt: &impl Print, file: &[u8]) -> io::Result<()> {
     let mut at = 0;
-    let mut turns = file.len() / 4 + 1;
-    while 0 < turns {
-        let t = one_step(file, at);
-        match t {
+    for _ in 0..file.len() / 4 + 1 {
+        match one_step(rt, file, at)? {
             Turn::On(next) => at = next,
-            Turn::Over => return,
+            Turn::Over => return Ok(()),
         }
-        turns -= 1;
     }
+    Ok(())
 }

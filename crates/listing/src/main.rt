@@ -5,16 +5,14 @@ mod input;
 mod list;
 
 use input::{Input, filled};
-use libc::STDERR_FILENO;
 use list::list;
 use numbers::bytes::part;
+use std::io;
 
-fn main() {
-    let mut bytes = io::large_buffer();
-    match filled(&mut bytes) {
-        Input::Bytes(n) => list(part(&bytes, 0, n)),
-        Input::Failed => {
-            io::write_all(STDERR_FILENO, b"cannot read\n");
-        }
+fn main(rt: HostRuntime) -> io::Result<()> {
+    let mut bytes = [0; 65536];
+    match filled(&mut rt.stdin(), &mut bytes) {
+        Input::Bytes(n) => list(&rt, part(&bytes, 0, n)),
+        Input::Failed => eprintln!(rt; "cannot read"),
     }
 }

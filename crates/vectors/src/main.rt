@@ -3,57 +3,50 @@
 // A line that begins with "joined" follows where key and value hash otherwise than the bytes that they are together.
 #![tactic(auto)]
 
-use libc::STDOUT_FILENO;
+use std::io;
 
 // The published input: each byte is the top byte of a number that is multiplied by a prime after it.
 fn input() -> [u8; 4160] {
     let mut bytes = [0u8; 4160];
     let mut g: u64 = 2654435761;
-    let mut i: usize = 0;
-    while i < 4160 {
-        bytes[i] = ((g >> 56) % 256) as u8;
+    for byte in &mut bytes {
+        *byte = ((g >> 56) % 256) as u8;
         g = numbers::wide::wrapping_mul(g, 11400714785074694797);
-        i += 1;
     }
     bytes
 }
 
-fn show(n: usize, h: hash::Hash128) {
-    io::print_decimal(STDOUT_FILENO, n as u64);
-    io::write_all(STDOUT_FILENO, b" ");
-    io::print_hex(STDOUT_FILENO, h.low, 16);
-    io::write_all(STDOUT_FILENO, b" ");
-    io::print_hex(STDOUT_FILENO, h.high, 16);
-    io::write_all(STDOUT_FILENO, b"\n");
+fn show(rt: &impl Print, n: usize, h: hash::Hash128) -> io::Result<()> {
+    println!(rt; "{n} {:016x} {:016x}", h.low, h.high)
 }
 
 // The string in two parts, the first of them at most `at` bytes long.
-fn split(s: &[u8], at: usize, h: hash::Hash128) {
+fn split(rt: &impl Print, s: &[u8], at: usize, h: hash::Hash128) -> io::Result<()> {
     let key = numbers::bytes::part(s, 0, at);
     let value = numbers::bytes::tail(s, at);
     let j = hash::xxh3_128_joined(key, value);
     if j.low != h.low || j.high != h.high {
-        io::write_all(STDOUT_FILENO, b"joined ");
-        show(at, j);
+        print!(rt; "joined ")?;
+        show(rt, at, j)?;
     }
+    Ok(())
 }
 
-fn vector(s: &[u8; 4160], n: usize) {
+fn vector(rt: &impl Print, s: &[u8; 4160], n: usize) -> io::Result<()> {
     let t = numbers::bytes::part(s, 0, n);
     let h = hash::xxh3_128(t);
-    show(n, h);
-    split(t, 0, h);
-    split(t, 1, h);
-    split(t, n / 2, h);
-    split(t, numbers::bytes::room(n, 1), h);
-    split(t, n, h);
+    show(rt, n, h)?;
+    split(rt, t, 0, h)?;
+    split(rt, t, 1, h)?;
+    split(rt, t, n / 2, h)?;
+    split(rt, t, numbers::bytes::room(n, 1), h)?;
+    split(rt, t, n, h)
 }
 
-fn main() {
+fn main(rt: HostRuntime) -> io::Result<()> {
     let bytes = input();
-    let mut n: usize = 0;
-    while n <= 4160 {
-        vector(&bytes, n);
-        n += 1;
+    for n in 0..=4160 {
+        vector(&rt, &bytes, n)?;
     }
+    Ok(())
 }

@@ -1,0 +1,6 @@
+-- Each turn but the last reads at least one byte.
+use Rattle.std.proofs.Common.{length, ◌-◌}
+use Rattle.calls.proofs.batch.read_full.Given as goal
+
+abbrev pub decreases-loop-done : goal.decreases-loop-done
+decreases-loop-done g l = length l.initial.bytes - l.done
