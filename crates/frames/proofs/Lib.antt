@@ -1,4 +1,4 @@
--- What belongs to no one function: the theorems with the laws they stand on, what the walks by hand in held/ share, and laws over plain variables.
+-- What belongs to no one function: the theorems with the laws they stand on, and laws over plain variables.
 mod Theorems
 mod ScanLaws
 mod PointLaws

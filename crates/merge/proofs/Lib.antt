@@ -1,4 +1,4 @@
--- What belongs to no one function: the theorems, what a `let .. else` knows, and laws over plain variables that the proofs cite.
+-- What belongs to no one function: the theorems, and laws over plain variables that the proofs cite.
 pub mod Fronts
 pub mod Merges
 pub mod Pieces

@@ -101,6 +101,7 @@ module _ (image : List ℕ) (x y : MergeEntry) where
   unfolding ahead
   behind_leq h = behind-by _ (view (part_at image y.key) (part_at image x.key)) h
 
+-- no string is below one that is below it: over two pairs, so that each can be taken apart
 below_apart : {a b c d : List ℕ} → Below a b → Below c d → a ≡ d → b ≡ c → ⊥
 below_apart short short p q = cc
 below_apart short (here h) p q = cc

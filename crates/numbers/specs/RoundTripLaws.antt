@@ -1,4 +1,4 @@
--- What is written reads back, and what was read shortest is what is written; a caller's proof cites `indirection-back`.
+-- What is written reads back, and what was read shortest is what is written; a caller's proof cites `indirection_back`.
 use Rattle.std.specs.Prelude.{◌≡◌, ℕ, zero, suc, ◌+◌, ◌-◌, ◌^◌, ◌<◌, ◌≤◌, List, ◌++◌, length, take, drop, refl}
 use Rattle.std.proofs.Common.{sym, ap, ◌∙◌, append_assoc, arith, length-append, length-take, drop_at, drop-drop, get_or-drop, take-add}
 use Rattle.std.proofs.lemmas.List.Edits.{sets-eq}
