@@ -14,7 +14,7 @@ need() {
         case $tool in
         rt) refuse "the command rt is missing. It comes with the Rattle kit: unpack the kit and put its bin folder on PATH" ;;
         esac
-        refuse "the command $tool is missing. On Debian: apt-get install coreutils diffutils findutils mawk python3 sed util-linux"
+        refuse "the command $tool is missing. On Debian: apt-get install coreutils diffutils grep mawk python3 sed util-linux"
     done
 }
 
