@@ -1,2 +1,2 @@
 -- What belongs to no one function: laws over plain variables that the proofs cite.
-pub mod Lists
+pub mod Arrays

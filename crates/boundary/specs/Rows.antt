@@ -1,17 +1,21 @@
 -- Answers as numbers and rows of numbers.
-use Rattle.std.specs.Prelude.{ℕ, ◌-◌, ◌%◌, ◌^◌, List, [], ◌∷◌, cond, eqb, get_or, set}
+use Rattle.std.specs.Prelude.{ℕ, ◌-◌, ◌%◌, ◌^◌, List, [], ◌∷◌, cond, eqb, get_or, set, is_some, Result, Ok, Err}
 use Rattle.numbers.specs.declared.handle.ValueHandle.{ValueHandle}
 use Rattle.frames.specs.Refusals.{append_number, scan_number}
 use Rattle.frames.specs.declared.place.Place.{Place}
 use Rattle.frames.specs.declared.writer.Writer.{Writer}
 use Rattle.frames.specs.declared.writer.Appended.{Appended}
-use Rattle.frames.specs.declared.writer.Appended.TheVariants as appended
-use Rattle.frames.specs.declared.scanner.Scanned.{Scanned}
-use Rattle.frames.specs.declared.scanner.Scanned.TheVariants as scanned
+use Rattle.frames.specs.declared.refused.Refused.{Refused}
+use Rattle.frames.specs.declared.refused.AppendRefusal.{AppendRefusal}
+use Rattle.frames.specs.declared.scanner.ScanEntry.{ScanEntry}
+use Rattle.frames.specs.declared.scanner.ScanRefusal.{ScanRefusal}
+use Rattle.frames.specs.declared.scanner.Step.{Step}
+use Rattle.frames.specs.declared.scanner.Step.TheVariants as scanned
 
--- document 01's number where a count is answered: below zero, in two's complement
-abbrev pub below_zero : ℕ → ℕ
-below_zero number = (2 ^ 64 - number) % 2 ^ 64
+-- a count; refused, the refusal's number below zero, in two's complement
+abbrev pub counted : {E : Type 0} → (E → ℕ) → Result ℕ E → ℕ
+counted number (Ok n) = n
+counted number (Err why) = (2 ^ 64 - number why) % 2 ^ 64
 
 -- a handle; a read does not look at the file's id
 abbrev pub handle_of : ℕ → ℕ → ValueHandle
@@ -46,26 +50,24 @@ writer_row w =
     ∷ w.first.at ∷ w.first.len ∷ w.last.at ∷ w.last.len ∷ []
 
 -- the row after an append: the new state's, or the same
-abbrev pub appended_row : List ℕ → Appended → List ℕ
-appended_row row (appended.Put pointer w) = writer_row w
-appended_row row (appended.Last pointer w report) = writer_row w
-appended_row row (appended.Refused why w) = row
+abbrev pub appended_row : List ℕ → Result Appended (Refused AppendRefusal) → List ℕ
+appended_row row (Ok put) = writer_row put.writer
+appended_row row (Err refused) = row
 
 -- 0 for a frame that is put, 100 where it was the file's last, else document 01's number
-abbrev pub appended_number : Appended → ℕ
-appended_number (appended.Put pointer w) = 0
-appended_number (appended.Last pointer w report) = 100
-appended_number (appended.Refused why w) = append_number why
+abbrev pub appended_number : Result Appended (Refused AppendRefusal) → ℕ
+appended_number (Ok put) = cond (is_some put.report) 100 0
+appended_number (Err refused) = append_number refused.why
 
 -- an entry's numbers, and last where the next step begins; of the end and a refusal that number alone
-abbrev pub step_row : List ℕ → Scanned → List ℕ
+abbrev pub step_row : List ℕ → Step ScanEntry ScanRefusal → List ℕ
 step_row row (scanned.Entry e next) =
     e.offset ∷ e.key.at ∷ e.key.len ∷ e.seqno ∷ e.stated ∷ e.value.at ∷ e.value.len ∷ next.at ∷ []
 step_row row (scanned.End at next) = set row 7 next.at
 step_row row (scanned.Refused why next) = set row 7 next.at
 
 -- 0 for an entry, 100 for the end, else document 01's number
-abbrev pub step_number : Scanned → ℕ
+abbrev pub step_number : Step ScanEntry ScanRefusal → ℕ
 step_number (scanned.Entry e next) = 0
 step_number (scanned.End at next) = 100
 step_number (scanned.Refused why next) = scan_number why

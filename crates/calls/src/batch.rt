@@ -1,25 +1,13 @@
 // The batches of standard input: each a length of 8 bytes and that many bytes of records.
+use crate::input::Malformed;
 use crate::output::Output;
-use crate::run::Run;
-use crate::{output, record};
-use numbers::bytes::{get_u64, part};
+use crate::record;
+use crate::stop::Stop;
+use numbers::bytes::part;
 use std::io::Read;
 
-#[derive(Clone, Copy)]
-struct Turn {
-    run: Run,
-    more: bool,
-}
-
-// What the next batch's length says.
-#[derive(Clone, Copy)]
-enum Start {
-    Length(usize),
-    Cut,
-    Nothing,
-}
-
-// How many bytes came to the start of the buffer, until it is full, the input ends or a read fails.
+// How many bytes came to the start of the buffer, until it is full, the input ends or a read fails. std's `read_exact` does not tell an input's end
+// from a batch that is cut, and `read_to_end` needs a heap.
 fn read_full(from: &mut impl Read, bytes: &mut [u8]) -> usize {
     let mut done = 0;
     while done < bytes.len() {
@@ -34,74 +22,32 @@ fn read_full(from: &mut impl Read, bytes: &mut [u8]) -> usize {
     done
 }
 
-fn head(from: &mut impl Read) -> Start {
-    let mut bytes = [0u8; 8];
-    let got = read_full(from, &mut bytes);
-    if got == 0 {
-        return Start::Nothing;
-    }
-    if got < 8 {
-        return Start::Cut;
-    }
-    Start::Length(get_u64(&bytes, 0) as usize)
-}
-
-// Whether the next n bytes could be read to the start of the buffer.
-fn fill(from: &mut impl Read, bytes: &mut [u8], n: usize) -> bool {
-    if bytes.len() < n {
-        return false;
-    }
-    read_full(from, &mut bytes[..n]) == n
-}
-
-fn records(from: &mut impl Read, bytes: &mut [u8], out: &mut Output, run: Run, n: usize) -> Run {
-    if !fill(from, bytes, n) {
-        return run.bad();
-    }
-    record::all(part(bytes, 0, n), out, run.to(0))
-}
-
-fn next(from: &mut impl Read, bytes: &mut [u8], out: &mut Output, run: Run) -> Turn {
-    match head(from) {
-        Start::Length(n) => {
-            let after = records(from, bytes, out, run, n);
-            Turn {
-                run: after,
-                more: after.well,
-            }
-        }
-        Start::Cut => Turn {
-            run: run.bad(),
-            more: false,
-        },
-        Start::Nothing => Turn { run, more: false },
+// The next batch's length; none at the input's end.
+fn length(from: &mut impl Read) -> Result<Option<usize>, Malformed> {
+    let mut bytes = [0; 8];
+    match read_full(from, &mut bytes) {
+        0 => Ok(None),
+        8 => Ok(Some(u64::from_le_bytes(bytes) as usize)),
+        _ => Err(Malformed),
     }
 }
 
-fn each(from: &mut impl Read, bytes: &mut [u8], out: &mut Output) -> Run {
-    let mut turn = Turn {
-        run: Run::new(),
-        more: true,
-    };
-    for _ in 0..1000000 {
-        if !turn.more {
-            break;
-        }
-        turn = next(from, bytes, out, turn.run);
+// The next n bytes, read to the start of the buffer.
+fn fill(from: &mut impl Read, bytes: &mut [u8], n: usize) -> Result<(), Malformed> {
+    let batch = bytes.get_mut(..n).ok_or(Malformed)?;
+    if read_full(from, batch) == n {
+        Ok(())
+    } else {
+        Err(Malformed)
     }
-    turn.run
 }
 
-fn verdict(out: &mut Output, run: Run) -> Run {
-    if run.well {
-        return run;
+// Each batch to the end of the input, or to the first that is malformed; a million at most.
+pub fn all(from: &mut impl Read, bytes: &mut [u8], out: &mut Output) -> Result<(), Stop> {
+    for _ in 0..1_000_000 {
+        let Some(n) = length(from)? else { break };
+        fill(from, bytes, n)?;
+        record::all(part(bytes, 0, n), out)?;
     }
-    output::text(out, run, b"bad\n")
-}
-
-// Each batch to the end of the input, or to the first that is malformed.
-pub fn all(from: &mut impl Read, bytes: &mut [u8], out: &mut Output) {
-    let run = each(from, bytes, out);
-    let run = verdict(out, run);
-    output::flush(out, run);
+    Ok(())
 }

@@ -1,138 +1,68 @@
 // The letter D: drains of a merge, and what it answers between them.
-use crate::input::{bounded, field, number};
-use crate::merges::{Pass, begun, next, table};
-use crate::output::{Output, decimal, end, refused, text};
-use crate::run::Run;
-use crate::scans::refusal;
-use merge::drain::{DrainOutcome, DrainRefusal};
+use crate::input::{Input, Malformed};
+use crate::merges::{next, refused, table};
+use crate::output::Output;
+use crate::stop::Stop;
+use merge::drain::Outcome;
 use merge::parts::MergeScanner;
-use numbers::bytes::{lesser, part};
+use merge::refusals::DrainRefusal;
 use numbers::handle::ValueHandle;
+use std::io;
+use std::io::Write;
 
-fn refused_as(out: &mut Output, run: Run, why: DrainRefusal) -> Run {
-    match why {
-        DrainRefusal::BadPart => refused(out, run, why.number()),
-        DrainRefusal::NotMatched => refused(out, run, why.number()),
-        DrainRefusal::Scan { part, why } => refusal(out, run, why, part as u64),
+fn line(out: &mut Output, outcome: Result<Outcome, DrainRefusal>) -> io::Result<()> {
+    match outcome {
+        Ok(Outcome::Found) => writeln!(out, "found"),
+        Ok(Outcome::Past) => writeln!(out, "past"),
+        Ok(Outcome::End) => writeln!(out, "end"),
+        Err(DrainRefusal::Merge(why)) => refused(out, why),
+        Err(why) => writeln!(out, "refused {}", why.number()),
     }
 }
 
-fn line_of(out: &mut Output, run: Run, o: DrainOutcome) -> Run {
-    match o {
-        DrainOutcome::Found => text(out, run, b"found\n"),
-        DrainOutcome::Past => text(out, run, b"past\n"),
-        DrainOutcome::End => text(out, run, b"end\n"),
-        DrainOutcome::Refused(why) => refused_as(out, run, why),
-    }
-}
-
-fn drained(out: &mut Output, image: &[u8], pass: Pass, key: &[u8], handle: ValueHandle) -> Pass {
-    let d = pass.scanner.drain_blobs(image, key, handle);
-    let o = d.outcome;
-    let run = line_of(out, pass.run, o);
-    begun(d.state, run)
-}
-
-fn taken(out: &mut Output, image: &[u8], pass: Pass, take: u64) -> Pass {
-    if take == 1 {
-        return next(out, image, pass);
-    }
-    pass
-}
-
-// What one ask seeks, and the run after it.
-#[derive(Clone, Copy)]
-struct Ask {
-    at: usize,
-    len: usize,
-    handle: ValueHandle,
-    take: u64,
-    run: Run,
-}
-
-fn sought(batch: &[u8], run: Run) -> Ask {
-    let k = field(batch, run);
-    let file = number(batch, k.run);
-    let offset = number(batch, file.run);
-    let take = bounded(batch, offset.run, 1);
-    let run = take.run;
-    let handle = ValueHandle {
-        offset: offset.value,
-        file: file.value,
+// n id, n offset. A drain doesn't look at the size.
+fn sought(input: &mut Input) -> Result<ValueHandle, Malformed> {
+    Ok(ValueHandle {
+        file: input.number()?,
+        offset: input.number()?,
         size: 0,
-    };
-    Ask {
-        at: k.at,
-        len: k.len,
-        handle,
-        take: take.value,
-        run,
-    }
+    })
 }
 
-fn one(batch: &[u8], out: &mut Output, image: &[u8], pass: Pass) -> Pass {
-    let ask = sought(batch, pass.run);
-    let run = ask.run;
-    let pass = begun(pass.scanner, run);
-    if !run.well {
-        return pass;
+// One ask: the state after it.
+fn ask(
+    input: &mut Input,
+    out: &mut Output,
+    image: &[u8],
+    scanner: MergeScanner,
+) -> Result<MergeScanner, Stop> {
+    let key = input.bytes()?;
+    let handle = sought(input)?;
+    let take = input.flag()?;
+    let drained = scanner.drain_blobs(image, key, handle);
+    line(out, drained.outcome)?;
+    if !take {
+        return Ok(drained.state);
     }
-    let key = part(batch, ask.at, ask.len);
-    let pass = drained(out, image, pass, key, ask.handle);
-    taken(out, image, pass, ask.take)
+    let merged = next(out, image, drained.state)?;
+    Ok(merged.state)
 }
 
-fn asks(batch: &[u8], out: &mut Output, image: &[u8], pass: Pass, count: u64) -> Pass {
-    let mut now = pass;
+fn positions(out: &mut Output, scanner: MergeScanner) -> io::Result<()> {
+    write!(out, "at")?;
+    for part in scanner.parts.iter().take(scanner.count) {
+        write!(out, " {}", part.at)?;
+    }
+    writeln!(out)
+}
+
+pub fn asked(input: &mut Input, out: &mut Output) -> Result<(), Stop> {
+    let image = input.bytes()?;
+    let mut scanner = table(input)?;
+    let count = input.number()?;
     for _ in 0..count {
-        if !now.run.well {
-            break;
-        }
-        now = one(batch, out, image, now);
+        scanner = ask(input, out, image, scanner)?;
     }
-    now
-}
-
-fn position(out: &mut Output, run: Run, scanner: MergeScanner, i: usize) -> Run {
-    let parts = scanner.parts;
-    if i < 16 {
-        let p = parts[i];
-        return decimal(out, run, p.at as u64);
-    }
-    run
-}
-
-fn each(out: &mut Output, run: Run, scanner: MergeScanner) -> Run {
-    let mut now = run;
-    for i in 0..lesser(scanner.count, 16) {
-        now = position(out, now, scanner, i);
-    }
-    now
-}
-
-fn positions(out: &mut Output, run: Run, scanner: MergeScanner) -> Run {
-    let run = text(out, run, b"at");
-    let run = each(out, run, scanner);
-    end(out, run)
-}
-
-fn all(batch: &[u8], out: &mut Output, image: &[u8], pass: Pass, count: u64) -> Run {
-    let now = asks(batch, out, image, pass, count);
-    let run = now.run;
-    if !run.well {
-        return run;
-    }
-    positions(out, run, now.scanner)
-}
-
-pub fn asked(batch: &[u8], out: &mut Output, run: Run) -> Run {
-    let f = field(batch, run);
-    let pass = table(batch, f.run);
-    let count = number(batch, pass.run);
-    let run = count.run;
-    if !run.well {
-        return run;
-    }
-    let pass = begun(pass.scanner, run);
-    all(batch, out, part(batch, f.at, f.len), pass, count.value)
+    positions(out, scanner)?;
+    Ok(())
 }

@@ -1,6 +1,5 @@
 // The bits of a binary32. A NaN has none of its own.
-use crate::output::{Output, decimal, text};
-use crate::run::Run;
+use std::fmt;
 
 // The number of a pattern; a NaN's gives a NaN.
 #[tactic(auto, using(std::proofs::lemmas::Float::not_nan_f32_bits))]
@@ -8,20 +7,19 @@ pub fn of_bits(bits: u32) -> f32 {
     if bits % 0x8000_0000 <= 0x7f80_0000 {
         return f32::from_bits(bits);
     }
-    0.0 / 0.0
+    f32::NAN
 }
 
-fn bits_of(x: f32) -> u32 {
-    if x == x {
-        return f32::to_bits(x);
-    }
-    0
-}
+// A number's pattern in decimal, or `nan`.
+#[derive(Clone, Copy)]
+pub struct Pattern(pub f32);
 
-// A space and a pattern, or `nan`.
-pub fn pattern(out: &mut Output, run: Run, x: f32) -> Run {
-    if x == x {
-        return decimal(out, run, bits_of(x) as u64);
+impl fmt::Display for Pattern {
+    fn fmt<W: fmt::Write>(&self, f: &mut fmt::Formatter<W>) -> fmt::Result {
+        let x = self.0;
+        if x.is_nan() {
+            return write!(f, "nan");
+        }
+        write!(f, "{}", x.to_bits())
     }
-    text(out, run, b" nan")
 }

@@ -1,39 +1,30 @@
 // The letters H and h: the hash of two strings joined, and of one.
-use crate::input::field;
-use crate::output::{Output, decimal, end, text};
-use crate::run::Run;
-use hash::Hash128;
-use numbers::bytes::part;
+use crate::input::Input;
+use crate::output::Output;
+use crate::stop::Stop;
+use hash::{Hash128, xxh3_128, xxh3_128_joined};
+use std::fmt;
+use std::io::Write;
 
 // A sum's two halves, the low one first.
-pub fn sum(out: &mut Output, run: Run, h: Hash128) -> Run {
-    let run = decimal(out, run, h.low);
-    decimal(out, run, h.high)
-}
+#[derive(Clone, Copy)]
+pub struct Sum(pub Hash128);
 
-fn line(out: &mut Output, run: Run, h: Hash128) -> Run {
-    let run = text(out, run, b"hash");
-    let run = sum(out, run, h);
-    end(out, run)
-}
-
-pub fn joined(batch: &[u8], out: &mut Output, run: Run) -> Run {
-    let k = field(batch, run);
-    let v = field(batch, k.run);
-    let run = v.run;
-    if !run.well {
-        return run;
+impl fmt::Display for Sum {
+    fn fmt<W: fmt::Write>(&self, f: &mut fmt::Formatter<W>) -> fmt::Result {
+        write!(f, "{} {}", self.0.low, self.0.high)
     }
-    let key = part(batch, k.at, k.len);
-    let value = part(batch, v.at, v.len);
-    line(out, run, hash::xxh3_128_joined(key, value))
 }
 
-pub fn one(batch: &[u8], out: &mut Output, run: Run) -> Run {
-    let f = field(batch, run);
-    let run = f.run;
-    if !run.well {
-        return run;
-    }
-    line(out, run, hash::xxh3_128(part(batch, f.at, f.len)))
+pub fn joined(input: &mut Input, out: &mut Output) -> Result<(), Stop> {
+    let key = input.bytes()?;
+    let value = input.bytes()?;
+    writeln!(out, "hash {}", Sum(xxh3_128_joined(key, value)))?;
+    Ok(())
+}
+
+pub fn one(input: &mut Input, out: &mut Output) -> Result<(), Stop> {
+    let bytes = input.bytes()?;
+    writeln!(out, "hash {}", Sum(xxh3_128(bytes)))?;
+    Ok(())
 }

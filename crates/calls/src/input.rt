@@ -1,66 +1,57 @@
-// The fields of a record. A field that is cut makes the run a bad one and counts as 0, or as no bytes.
-use crate::run::Run;
-use numbers::bytes::{get_u64, room};
+// A batch's records: letters and fields, taken from the front one after another.
+ghost use Rattle.std.specs.Prelude.{◌≤◌, IfOk};
 
-// A number, and the run after it.
+// A field that is cut, or that the format forbids.
 #[derive(Clone, Copy)]
-pub struct Taken {
-    pub value: u64,
-    pub run: Run,
+pub struct Malformed;
+
+// The bytes of a batch that are not yet taken.
+#[derive(Drop)]
+pub struct Input<'a> {
+    rest: &'a [u8],
 }
 
-// Where a byte string lies in the batch, and the run after it.
-#[derive(Clone, Copy)]
-pub struct Span {
-    pub at: usize,
-    pub len: usize,
-    pub run: Run,
-}
+impl<'a> Input<'a> {
+    pub fn new(batch: &'a [u8]) -> Input<'a> {
+        Input { rest: batch }
+    }
 
-pub fn number(batch: &[u8], run: Run) -> Taken {
-    let at = run.at;
-    if room(batch.len(), at) < 8 {
-        return Taken {
-            value: 0,
-            run: run.bad(),
-        };
+    // The next record's letter; none at the batch's end.
+    pub fn letter(&mut self) -> Option<u8> {
+        let (letter, rest) = self.rest.split_first()?;
+        self.rest = rest;
+        Some(*letter)
     }
-    Taken {
-        value: get_u64(batch, at),
-        run: run.to(at + 8),
-    }
-}
 
-pub fn field(batch: &[u8], run: Run) -> Span {
-    let n = number(batch, run);
-    let run = n.run;
-    let at = run.at;
-    let len = n.value as usize;
-    if room(batch.len(), at) < len {
-        return Span {
-            at: 0,
-            len: 0,
-            run: run.bad(),
-        };
+    pub fn number(&mut self) -> Result<u64, Malformed> {
+        let (bytes, rest) = self.rest.split_first_chunk::<8>().ok_or(Malformed)?;
+        self.rest = rest;
+        Ok(u64::from_le_bytes(*bytes))
     }
-    Span {
-        at,
-        len,
-        run: run.to(at + len),
-    }
-}
 
-// A number that is at most `most`.
-pub fn bounded(batch: &[u8], run: Run, most: u64) -> Taken {
-    let n = number(batch, run);
-    let run = n.run;
-    Taken {
-        value: n.value,
-        run: run.demand(n.value <= most),
+    // A byte string: its length, and then its bytes.
+    pub fn bytes(&mut self) -> Result<&'a [u8], Malformed> {
+        let len = self.number()? as usize;
+        let (bytes, rest) = self.rest.split_at_checked(len).ok_or(Malformed)?;
+        self.rest = rest;
+        Ok(bytes)
     }
-}
 
-// A number below 2^32.
-pub fn short(batch: &[u8], run: Run) -> Taken {
-    bounded(batch, run, 0xffff_ffff)
+    // A number that is at most `most`.
+    pub fn bounded(&mut self, most: usize) -> Result<usize, Malformed>
+        ensures { IfOk result (λ n. n ≤ most) }
+    {
+        let n = self.number()? as usize;
+        if n <= most { Ok(n) } else { Err(Malformed) }
+    }
+
+    // A number below 2^32.
+    pub fn short(&mut self) -> Result<u32, Malformed> {
+        u32::try_from(self.number()?).map_err(|_| Malformed)
+    }
+
+    // 0 or 1.
+    pub fn flag(&mut self) -> Result<bool, Malformed> {
+        Ok(self.bounded(1)? == 1)
+    }
 }

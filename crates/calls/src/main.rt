@@ -17,17 +17,22 @@ mod pointers;
 mod points;
 mod record;
 mod rows;
-mod run;
 mod scans;
+mod stop;
 mod stores;
-mod told;
 
 use output::Output;
 use std::io;
+use std::io::Write;
+use stop::Stop;
 
 fn main(rt: HostRuntime) -> io::Result<()> {
     let mut bytes = [0; 65536];
     let mut out = Output::new(rt.stdout());
-    batch::all(&mut rt.stdin(), &mut bytes, &mut out);
-    out.written
+    match batch::all(&mut rt.stdin(), &mut bytes, &mut out) {
+        Ok(()) => {}
+        Err(Stop::Malformed) => writeln!(out, "bad")?,
+        Err(Stop::Write(why)) => return Err(why),
+    }
+    out.flush()
 }

@@ -1,126 +1,84 @@
-// Answer lines. Bytes wait in a buffer, which is written when it is full.
-use crate::run::Run;
-use itoa::Buffer;
+// Answer lines. Bytes wait in a buffer, which is written when it is full. std's `BufWriter` has its buffer on the heap.
 use numbers::bytes::part;
-use std::io;
-use std::io::Stdout;
+use std::io::{Cursor, Stdout, Write};
+use std::{fmt, io};
 
-// Standard output, the bytes that wait for it, and the first failure to write: after it nothing is written.
+// Standard output, and the bytes that wait for it.
 #[derive(Drop)]
 pub struct Output {
     to: Stdout,
-    bytes: [u8; 65536],
-    pub written: io::Result<()>,
+    waiting: Cursor<[u8; 65536]>,
 }
 
 impl Output {
-    pub fn new(to: Stdout) -> Self {
+    pub fn new(to: Stdout) -> Output {
         Output {
             to,
-            bytes: [0; 65536],
-            written: Ok(()),
+            waiting: Cursor::new([0; 65536]),
         }
     }
 }
 
-fn store(out: &mut Output, at: usize, byte: u8) {
-    if at < out.bytes.len() {
-        out.bytes[at] = byte;
+impl Write for Output {
+    fn write(&mut self, bytes: &[u8]) -> io::Result<usize> {
+        let n = self.waiting.write(bytes)?;
+        if 0 < n || bytes.is_empty() {
+            return Ok(n);
+        }
+        self.flush()?;
+        self.waiting.write(bytes)
+    }
+
+    fn flush(&mut self) -> io::Result<()> {
+        let held = self.waiting.position() as usize;
+        self.to.write_all(part(self.waiting.get_ref(), 0, held))?;
+        self.waiting.set_position(0);
+        Ok(())
     }
 }
 
-// The first n bytes of the buffer are written.
-fn write(out: &mut Output, n: usize) {
-    if out.written.is_ok() {
-        out.written = out.to.write_all(part(&out.bytes, 0, n));
+// Bytes in hexadecimal, `-` for none.
+#[derive(Clone, Copy)]
+pub struct Hex<'a>(pub &'a [u8]);
+
+impl fmt::Display for Hex<'_> {
+    fn fmt<W: fmt::Write>(&self, f: &mut fmt::Formatter<W>) -> fmt::Result {
+        if self.0.is_empty() {
+            return write!(f, "-");
+        }
+        for byte in self.0 {
+            write!(f, "{byte:02x}")?;
+        }
+        Ok(())
     }
 }
 
-pub fn put(out: &mut Output, run: Run, byte: u8) -> Run {
-    let held = run.held;
-    if held < out.bytes.len() {
-        store(out, held, byte);
-        return run.holding(held + 1);
+// A room's bytes, as a line.
+pub fn whole(out: &mut Output, room: &[u8]) -> io::Result<()> {
+    writeln!(out, "bytes {}", Hex(room))
+}
+
+// Done, or the number of the refusal.
+pub fn done(out: &mut Output, answer: Result<(), u64>) -> io::Result<()> {
+    match answer {
+        Ok(()) => writeln!(out, "ok"),
+        Err(number) => writeln!(out, "refused {number}"),
     }
-    write(out, held);
-    store(out, 0, byte);
-    run.holding(1)
 }
 
-// What waits is written.
-pub fn flush(out: &mut Output, run: Run) -> Run {
-    write(out, run.held);
-    run.holding(0)
-}
-
-pub fn text(out: &mut Output, run: Run, bytes: &[u8]) -> Run {
-    let mut now = run;
-    for byte in bytes {
-        now = put(out, now, *byte);
+// How many bytes were used, or the number of the refusal.
+pub fn used(out: &mut Output, answer: Result<usize, u64>) -> io::Result<()> {
+    match answer {
+        Ok(used) => writeln!(out, "used {used}"),
+        Err(number) => writeln!(out, "refused {number}"),
     }
-    now
-}
-
-pub fn end(out: &mut Output, run: Run) -> Run {
-    put(out, run, b'\n')
-}
-
-// A space and a number.
-pub fn decimal(out: &mut Output, run: Run, x: u64) -> Run {
-    let mut digits = Buffer::new();
-    let run = put(out, run, b' ');
-    text(out, run, digits.format(x).as_bytes())
-}
-
-fn digit(x: u8) -> u8 {
-    let d = x % 16;
-    if d < 10 { 48 + d } else { 87 + d }
-}
-
-fn pair(out: &mut Output, run: Run, byte: u8) -> Run {
-    let run = put(out, run, digit(byte / 16));
-    put(out, run, digit(byte))
-}
-
-fn pairs(out: &mut Output, run: Run, bytes: &[u8]) -> Run {
-    let mut now = run;
-    for byte in bytes {
-        now = pair(out, now, *byte);
-    }
-    now
-}
-
-// A space and the bytes in hexadecimal, or `-` for none.
-pub fn hex(out: &mut Output, run: Run, bytes: &[u8]) -> Run {
-    let run = put(out, run, b' ');
-    if bytes.len() == 0 {
-        return put(out, run, b'-');
-    }
-    pairs(out, run, bytes)
-}
-
-// A word and a number, as a line.
-pub fn line(out: &mut Output, run: Run, word: &[u8], x: u64) -> Run {
-    let run = text(out, run, word);
-    let run = decimal(out, run, x);
-    end(out, run)
-}
-
-pub fn refused(out: &mut Output, run: Run, number: u64) -> Run {
-    line(out, run, b"refused", number)
-}
-
-// A buffer's bytes, as a line.
-pub fn whole(out: &mut Output, run: Run, bytes: &[u8]) -> Run {
-    let run = text(out, run, b"bytes");
-    let run = hex(out, run, bytes);
-    end(out, run)
 }
 
 // Whether both forms of a call gave the same.
-pub fn agreed(out: &mut Output, run: Run, same: bool) -> Run {
+pub fn agreed(out: &mut Output, same: bool) -> io::Result<()> {
     if same {
-        return run;
+        Ok(())
+    } else {
+        writeln!(out, "differs")
     }
-    text(out, run, b"differs\n")
 }

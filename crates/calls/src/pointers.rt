@@ -1,92 +1,55 @@
 // The letters I and i: an indirection written and read.
-use crate::groups::wrote;
-use crate::input::{bounded, field, number, short};
-use crate::output::{Output, decimal, end, refused, text, whole};
-use crate::run::Run;
-use numbers::bytes::part;
-use numbers::handle::{BlobIndirection, ReadIndirection, ValueHandle};
-use numbers::leb128::Wrote;
+use crate::input::{Input, Malformed};
+use crate::output::{Output, used, whole};
+use crate::stop::Stop;
+use numbers::handle::{BlobIndirection, ValueHandle};
+use numbers::leb128::{Decoded, WriteRefusal};
+use std::fmt;
+use std::io::Write;
 
-// An indirection, and the run after it.
-#[derive(Clone, Copy)]
-pub struct Pointed {
-    pub indirection: BlobIndirection,
-    pub run: Run,
+// n id, n offset, n size.
+pub fn handle(input: &mut Input) -> Result<ValueHandle, Malformed> {
+    Ok(ValueHandle {
+        file: input.number()?,
+        offset: input.number()?,
+        size: input.short()?,
+    })
 }
 
-fn low32(x: u64) -> u32 {
-    (x % 0x1_0000_0000) as u32
-}
-
-// n id, n offset, n size, n stated.
-pub fn pointer(batch: &[u8], run: Run) -> Pointed {
-    let file = number(batch, run);
-    let offset = number(batch, file.run);
-    let size = short(batch, offset.run);
-    let stated = short(batch, size.run);
-    let handle = ValueHandle {
-        offset: offset.value,
-        file: file.value,
-        size: low32(size.value),
-    };
-    let run = stated.run;
-    Pointed {
-        indirection: BlobIndirection {
-            handle,
-            stated: low32(stated.value),
-        },
-        run,
-    }
-}
-
-fn write_within(room: &mut [u8], n: usize, p: BlobIndirection) -> Wrote {
-    if room.len() < n {
-        return Wrote::NoRoom;
-    }
-    p.encode(&mut room[..n], 0)
-}
-
-fn made(out: &mut Output, run: Run, p: BlobIndirection, n: usize) -> Run {
-    let mut room = [0xEEu8; 64];
-    let w = write_within(&mut room, n, p);
-    let run = wrote(out, run, w);
-    whole(out, run, part(&room, 0, n))
-}
-
-pub fn written(batch: &[u8], out: &mut Output, run: Run) -> Run {
-    let p = pointer(batch, run);
-    let room = bounded(batch, p.run, 64);
-    let run = room.run;
-    if !run.well {
-        return run;
-    }
-    made(out, run, p.indirection, room.value as usize)
+// A handle, n stated.
+pub fn pointer(input: &mut Input) -> Result<BlobIndirection, Malformed> {
+    Ok(BlobIndirection {
+        handle: handle(input)?,
+        stated: input.short()?,
+    })
 }
 
 // An indirection's numbers: id, offset, on-disk size and stated length.
-pub fn numbers_of(out: &mut Output, run: Run, p: BlobIndirection) -> Run {
-    let h = p.handle;
-    let run = decimal(out, run, h.file);
-    let run = decimal(out, run, h.offset);
-    let run = decimal(out, run, h.size as u64);
-    decimal(out, run, p.stated as u64)
+#[derive(Clone, Copy)]
+pub struct Numbers(pub BlobIndirection);
+
+impl fmt::Display for Numbers {
+    fn fmt<W: fmt::Write>(&self, f: &mut fmt::Formatter<W>) -> fmt::Result {
+        let ValueHandle { offset, file, size } = self.0.handle;
+        write!(f, "{file} {offset} {size} {}", self.0.stated)
+    }
 }
 
-fn found(out: &mut Output, run: Run, p: BlobIndirection, used: usize) -> Run {
-    let run = text(out, run, b"ptr");
-    let run = numbers_of(out, run, p);
-    let run = decimal(out, run, used as u64);
-    end(out, run)
+pub fn written(input: &mut Input, out: &mut Output) -> Result<(), Stop> {
+    let p = pointer(input)?;
+    let n = input.bounded(64)?;
+    let mut bytes = [0xEE; 64];
+    let room = &mut bytes[..n];
+    used(out, p.encode(room, 0).map_err(WriteRefusal::number))?;
+    whole(out, room)?;
+    Ok(())
 }
 
-pub fn read(batch: &[u8], out: &mut Output, run: Run) -> Run {
-    let f = field(batch, run);
-    let run = f.run;
-    if !run.well {
-        return run;
+pub fn read(input: &mut Input, out: &mut Output) -> Result<(), Stop> {
+    let bytes = input.bytes()?;
+    match BlobIndirection::decode(bytes, 0) {
+        Ok(Decoded { value, used }) => writeln!(out, "ptr {} {used}", Numbers(value))?,
+        Err(why) => writeln!(out, "refused {}", why.number())?,
     }
-    match BlobIndirection::decode(part(batch, f.at, f.len), 0) {
-        ReadIndirection::Indirection { indirection, used } => found(out, run, indirection, used),
-        ReadIndirection::Refused(why) => refused(out, run, why.number()),
-    }
+    Ok(())
 }

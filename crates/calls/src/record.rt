@@ -1,41 +1,33 @@
 // The records of a batch, by their letters.
+use crate::input::Input;
 use crate::output::Output;
-use crate::run::Run;
+use crate::stop::Stop;
 use crate::{drains, files, groups, hashes, maps, merges, pointers, points, scans};
 
-fn answer(batch: &[u8], out: &mut Output, run: Run, letter: u8) -> Run {
+fn answer(letter: u8, input: &mut Input, out: &mut Output) -> Result<(), Stop> {
     match letter {
-        b'H' => hashes::joined(batch, out, run),
-        b'h' => hashes::one(batch, out, run),
-        b'W' => files::written(batch, out, run),
-        b'S' => scans::file(batch, out, run),
-        b'P' => points::pointed(batch, out, run),
-        b'M' => merges::merged(batch, out, run),
-        b'D' => drains::asked(batch, out, run),
-        b'V' => groups::written(batch, out, run),
-        b'v' => groups::read(batch, out, run),
-        b'I' => pointers::written(batch, out, run),
-        b'i' => pointers::read(batch, out, run),
-        b'G' => maps::stepped(batch, out, run),
-        _ => run.bad(),
+        b'H' => hashes::joined(input, out),
+        b'h' => hashes::one(input, out),
+        b'W' => files::written(input, out),
+        b'S' => scans::file(input, out),
+        b'P' => points::pointed(input, out),
+        b'M' => merges::merged(input, out),
+        b'D' => drains::asked(input, out),
+        b'V' => groups::written(input, out),
+        b'v' => groups::read(input, out),
+        b'I' => pointers::written(input, out),
+        b'i' => pointers::read(input, out),
+        b'G' => maps::stepped(input, out),
+        _ => Err(Stop::Malformed),
     }
 }
 
-fn one(batch: &[u8], out: &mut Output, run: Run) -> Run {
-    let at = run.at;
-    if at < batch.len() {
-        return answer(batch, out, run.to(at + 1), batch[at]);
+// Each record to the batch's end. None is shorter than its letter.
+pub fn all(batch: &[u8], out: &mut Output) -> Result<(), Stop> {
+    let mut input = Input::new(batch);
+    for _ in batch {
+        let Some(letter) = input.letter() else { break };
+        answer(letter, &mut input, out)?;
     }
-    run
-}
-
-pub fn all(batch: &[u8], out: &mut Output, run: Run) -> Run {
-    let mut now = run;
-    for _ in 0..batch.len() {
-        if !now.well || batch.len() <= now.at {
-            break;
-        }
-        now = one(batch, out, now);
-    }
-    now
+    Ok(())
 }

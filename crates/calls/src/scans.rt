@@ -1,158 +1,81 @@
 // The letter S: a file scanned from its first byte.
-use crate::hashes::sum;
-use crate::input::field;
-use crate::output::{Output, agreed, decimal, end, hex, line, text};
-use crate::run::Run;
-use crate::told::{same, scanned};
+use crate::hashes::Sum;
+use crate::input::Input;
+use crate::output::{Hex, Output, agreed};
+use crate::stop::Stop;
 use frames::held::held_step;
 use frames::place::Place;
-use frames::scanner::{ScanEntry, ScanRefusal, Scanned, Scanner};
-use hash::Hash128;
+use frames::scanner::{ScanEntry, ScanRefusal, Scanner, Step};
 use numbers::bytes::part;
+use std::io;
+use std::io::Write;
 
-// A scanner, whether it may step on, and the run beside it.
-#[derive(Clone, Copy)]
-struct Scan {
-    scanner: Scanner,
-    more: bool,
-    run: Run,
+// A place's bytes.
+pub fn at(file: &[u8], place: Place) -> Hex<'_> {
+    Hex(part(file, place.at, place.len))
 }
 
-// A place's bytes, in hexadecimal.
-pub fn bytes_at(out: &mut Output, run: Run, file: &[u8], p: Place) -> Run {
-    hex(out, run, part(file, p.at, p.len))
-}
-
-// A key's bytes and a value's, to the line's end.
-pub fn both_at(out: &mut Output, run: Run, file: &[u8], key: Place, value: Place) -> Run {
-    let run = bytes_at(out, run, file, key);
-    let run = bytes_at(out, run, file, value);
-    end(out, run)
-}
-
-fn lengths(out: &mut Output, run: Run, file: &[u8], e: ScanEntry) -> Run {
-    let key = e.key;
-    let value = e.value;
-    let run = decimal(out, run, e.stated as u64);
-    let run = decimal(out, run, value.len as u64);
-    both_at(out, run, file, key, value)
-}
-
-fn entry(out: &mut Output, run: Run, file: &[u8], e: ScanEntry) -> Run {
-    let run = text(out, run, b"entry");
-    let run = decimal(out, run, e.offset as u64);
-    let run = decimal(out, run, e.seqno);
-    lengths(out, run, file, e)
-}
-
-// Both sums, the stored one first.
-pub fn sums(out: &mut Output, run: Run, stored: Hash128, computed: Hash128) -> Run {
-    let run = sum(out, run, stored);
-    let run = sum(out, run, computed);
-    end(out, run)
-}
-
-fn closed(out: &mut Output, run: Run, why: ScanRefusal) -> Run {
-    match why {
-        ScanRefusal::CutShort(_) => end(out, run),
-        ScanRefusal::InvalidHeader { at: _ } => end(out, run),
-        ScanRefusal::Mismatch {
-            at: _,
-            stored,
-            computed,
-        } => sums(out, run, stored, computed),
-    }
+fn entry(out: &mut Output, file: &[u8], e: ScanEntry) -> io::Result<()> {
+    write!(
+        out,
+        "entry {} {} {} {}",
+        e.offset, e.seqno, e.stated, e.value.len
+    )?;
+    writeln!(out, " {} {}", at(file, e.key), at(file, e.value))
 }
 
 // A refused scan, with a number that says where.
-pub fn refusal(out: &mut Output, run: Run, why: ScanRefusal, x: u64) -> Run {
-    let run = text(out, run, b"refused");
-    let run = decimal(out, run, why.number());
-    let run = decimal(out, run, x);
-    closed(out, run, why)
+pub fn refusal(out: &mut Output, why: ScanRefusal, place: usize) -> io::Result<()> {
+    write!(out, "refused {} {place}", why.number())?;
+    if let ScanRefusal::Mismatch {
+        stored,
+        computed,
+        ..
+    } = why
+    {
+        write!(out, " {} {}", Sum(stored), Sum(computed))?;
+    }
+    writeln!(out)
 }
 
-// Where the refused step of a scanner at `from` began, by the refusal itself where it says so.
-fn began(why: ScanRefusal, from: usize) -> usize {
-    match why {
-        ScanRefusal::CutShort(_) => from,
-        ScanRefusal::InvalidHeader { at } => at,
-        ScanRefusal::Mismatch {
-            at,
-            stored: _,
-            computed: _,
-        } => at,
-    }
-}
-
-fn is_cut(why: ScanRefusal) -> bool {
-    match why {
-        ScanRefusal::CutShort(_) => true,
-        ScanRefusal::InvalidHeader { at: _ } => false,
-        ScanRefusal::Mismatch {
-            at: _,
-            stored: _,
-            computed: _,
-        } => false,
-    }
-}
-
-fn answered(out: &mut Output, run: Run, file: &[u8], a: Scanned, from: usize) -> Scan {
-    match a {
-        Scanned::Entry(e, scanner) => Scan {
-            scanner,
-            more: true,
-            run: entry(out, run, file, e),
-        },
-        Scanned::End { at, next: scanner } => Scan {
-            scanner,
-            more: false,
-            run: line(out, run, b"end", at as u64),
-        },
-        Scanned::Refused(why, scanner) => Scan {
-            scanner,
-            more: !is_cut(why),
-            run: refusal(out, run, why, began(why, from) as u64),
-        },
-    }
-}
-
-// The step, and the same by a scanner that holds the file.
-fn step(out: &mut Output, file: &[u8], scan: Scan) -> Scan {
-    let from = scan.scanner;
-    let a = from.step(file);
-    let held = held_step(file, from);
-    let now = answered(out, scan.run, file, a, from.at);
-    let scanner = now.scanner;
-    let run = agreed(out, now.run, same(scanned(a), scanned(held)));
-    Scan {
-        scanner,
-        more: now.more,
-        run,
-    }
+// The step, and the same by a scanner that holds the file: the scanner to go on with. A refused step began where the refusal says, or where the
+// scanner stood.
+fn step(out: &mut Output, file: &[u8], from: Scanner) -> io::Result<Option<Scanner>> {
+    let answer = from.step(file);
+    let next = match answer {
+        Step::Entry(e, next) => {
+            entry(out, file, e)?;
+            Some(next)
+        }
+        Step::End { at, .. } => {
+            writeln!(out, "end {at}")?;
+            None
+        }
+        Step::Refused(why, next) => {
+            let (at, next) = match why {
+                ScanRefusal::CutShort(_) => (from.at, None),
+                ScanRefusal::InvalidHeader { at } | ScanRefusal::Mismatch { at, .. } => (
+                    at,
+                    Some(next),
+                ),
+            };
+            refusal(out, why, at)?;
+            next
+        }
+    };
+    agreed(out, answer == held_step(file, from))?;
+    Ok(next)
 }
 
 // A scan is over within a quarter as many steps as the file has bytes, and one.
-fn steps(out: &mut Output, run: Run, file: &[u8]) -> Run {
-    let mut now = Scan {
-        scanner: Scanner::new(),
-        more: true,
-        run,
-    };
+pub fn file(input: &mut Input, out: &mut Output) -> Result<(), Stop> {
+    let file = input.bytes()?;
+    let mut scanner = Scanner::new();
     for _ in 0..file.len() / 4 + 1 {
-        if !now.more {
+        let Some(next) = step(out, file, scanner)? else {
             break;
-        }
-        now = step(out, file, now);
+        };
+        scanner = next;
     }
-    now.run
-}
-
-pub fn file(batch: &[u8], out: &mut Output, run: Run) -> Run {
-    let f = field(batch, run);
-    let run = f.run;
-    if !run.well {
-        return run;
-    }
-    steps(out, run, part(batch, f.at, f.len))
+    Ok(())
 }

@@ -1,154 +1,125 @@
 // What 7, cut short, carries: where reading began, the bytes needed, the bytes present. Lines of the calls program do not have them yet.
-use crate::say::{cut, end, number, refused, say};
+use crate::shown::Cut;
 use frames::reader::look;
 use frames::scanner::{ScanRefusal, Scanned, Scanner};
 use frames::writer::Writer;
 use garbage::map::FragmentationMap;
-use garbage::stored::{LoadAnswer, LoadRefusal};
-use merge::next::{MergeAnswer, MergeRefusal};
+use garbage::stored::LoadRefusal;
 use merge::parts::{MergeScanner, Part};
-use numbers::bytes::part;
-use numbers::handle::{BlobIndirection, ReadIndirection, ValueHandle};
-use numbers::leb128::{NumberRefusal, ReadU64, read_u64};
+use merge::refusals::MergeRefusal;
+use numbers::handle::{BlobIndirection, ValueHandle};
+use numbers::leb128::{NumberRefusal, read};
 use std::io;
 
 fn scan_refusal(rt: &impl Print, why: ScanRefusal) -> io::Result<()> {
-    refused(rt, why.number())?;
+    print!(rt; " refused {}", why.number())?;
     match why {
-        ScanRefusal::CutShort(c) => cut(rt, c),
-        ScanRefusal::InvalidHeader { at } => number(rt, at as u64),
-        ScanRefusal::Mismatch {
-            at,
-            stored: _,
-            computed: _,
-        } => number(rt, at as u64),
+        ScanRefusal::CutShort(c) => print!(rt; " {}", Cut(c)),
+        ScanRefusal::InvalidHeader { at } | ScanRefusal::Mismatch { at, .. } => print!(rt; " {at}"),
     }
 }
 
 // A scan's step from `at` on.
 fn step(rt: &impl Print, file: &[u8], at: usize) -> io::Result<()> {
-    let s = Scanner { at, ended: false }.step(file);
-    match s {
-        Scanned::Entry(e, _) => say(rt, b" entry")?,
-        Scanned::End { at: _, next: _ } => say(rt, b" end")?,
+    match (Scanner { at, ended: false }).step(file) {
+        Scanned::Entry(_, _) => println!(rt; " entry"),
+        Scanned::End { .. } => println!(rt; " end"),
         Scanned::Refused(why, next) => {
             scan_refusal(rt, why)?;
-            say(rt, b", then at")?;
-            number(rt, next.at as u64)?;
+            println!(rt; ", then at {}", next.at)
         }
     }
-    end(rt)
 }
 
-fn scans(rt: &impl Print, file: &[u8]) -> io::Result<()> {
-    say(
-        rt,
-        b"\n7 cut short, a scan of 46 bytes cut in its mark, header, key, value and META\n",
-    )?;
-    step(rt, part(file, 0, 3), 0)?;
-    step(rt, part(file, 0, 37), 0)?;
-    step(rt, part(file, 0, 38), 0)?;
-    step(rt, part(file, 0, 41), 0)?;
-    step(rt, part(file, 0, 45), 42)
+fn scans(rt: &impl Print, file: &[u8; 46]) -> io::Result<()> {
+    println!(rt; "\n7 cut short, a scan of 46 bytes cut in its mark, header, key, value and META")?;
+    step(rt, &file[..3], 0)?;
+    step(rt, &file[..37], 0)?;
+    step(rt, &file[..38], 0)?;
+    step(rt, &file[..41], 0)?;
+    step(rt, &file[..45], 42)
 }
 
 // A scan that stands where no scan comes: past the end.
 fn beyond(rt: &impl Print, file: &[u8]) -> io::Result<()> {
-    say(rt, b"from 47 and from 2^64 - 1 on:\n")?;
+    println!(rt; "from 47 and from 2^64 - 1 on:")?;
     step(rt, file, 47)?;
-    step(rt, file, 18446744073709551615)
+    step(rt, file, usize::MAX)
 }
 
-fn point(rt: &impl Print, file: &[u8], key: &[u8], offset: u64, size: u32) -> io::Result<()> {
+fn point(rt: &impl Print, file: &[u8], offset: u64, size: u32) -> io::Result<()> {
     let handle = ValueHandle {
         offset,
         file: 1,
         size,
     };
-    let t = look(file, key, handle);
-    refused(rt, t.number)?;
-    cut(rt, t.cut)?;
-    end(rt)
+    let told = look(file, b"a", handle);
+    println!(rt; " refused {} {}", told.number, Cut(told.cut))
 }
 
 // The second file's header says a key of 5 bytes.
 fn points(rt: &impl Print, file: &[u8], long: &[u8]) -> io::Result<()> {
-    say(
-        rt,
-        b"a point read: past the file's end, from 2^64 - 1 on, and a key longer than what was taken\n",
+    println!(rt;
+        "a point read: past the file's end, from 2^64 - 1 on, and a key longer than what was taken"
     )?;
-    point(rt, file, b"a", 42, 0)?;
-    point(rt, file, b"a", 18446744073709551615, 4294967295)?;
-    point(rt, long, b"a", 0, 3)
+    point(rt, file, 42, 0)?;
+    point(rt, file, u64::MAX, u32::MAX)?;
+    point(rt, long, 0, 3)
 }
 
 fn number_refusal(rt: &impl Print, why: NumberRefusal) -> io::Result<()> {
-    refused(rt, why.number())?;
+    print!(rt; " refused {}", why.number())?;
     match why {
-        NumberRefusal::CutShort(c) => cut(rt, c)?,
-        NumberRefusal::TooLong => say(rt, b" too long")?,
+        NumberRefusal::CutShort(c) => println!(rt; " {}", Cut(c)),
+        NumberRefusal::TooLong => println!(rt; " too long"),
     }
-    end(rt)
 }
 
 fn group(rt: &impl Print, s: &[u8], at: usize) -> io::Result<()> {
-    match read_u64(s, at) {
-        ReadU64::Number { value, used: _ } => number(rt, value),
-        ReadU64::Refused(why) => number_refusal(rt, why),
-    }
-}
-
-fn pair(rt: &impl Print, s: &[u8], at: usize) -> io::Result<()> {
-    match BlobIndirection::decode(s, at) {
-        ReadIndirection::Indirection {
-            indirection: _,
-            used: _,
-        } => say(rt, b" ptr"),
-        ReadIndirection::Refused(why) => number_refusal(rt, why),
+    match read::<u64>(s, at) {
+        Ok(read) => print!(rt; " {}", read.value),
+        Err(why) => number_refusal(rt, why),
     }
 }
 
 fn groups(rt: &impl Print) -> io::Result<()> {
-    say(
-        rt,
-        b"a number: no byte, nine that carry on, two from 1 on, from 2^64 - 1 on; a pointer's stated length, from 1 on\n",
+    println!(rt;
+        "a number: no byte, nine that carry on, two from 1 on, from 2^64 - 1 on; a pointer's stated length, from 1 on"
     )?;
     group(rt, b"", 0)?;
     group(rt, b"\xff\xff\xff\xff\xff\xff\xff\xff\xff", 0)?;
     group(rt, b"\x00\x80\x80", 1)?;
-    group(rt, b"\x00", 18446744073709551615)?;
-    pair(rt, b"\x00\xac\x02\x02\x80\x01", 1)
+    group(rt, b"\x00", usize::MAX)?;
+    match BlobIndirection::decode(b"\x00\xac\x02\x02\x80\x01", 1) {
+        Ok(_) => print!(rt; " ptr"),
+        Err(why) => number_refusal(rt, why),
+    }
 }
 
 fn load(rt: &impl Print, s: &[u8]) -> io::Result<()> {
-    let l = FragmentationMap::load(s);
-    let a = l.answer;
-    match a {
-        LoadAnswer::Used(n) => number(rt, n as u64)?,
-        LoadAnswer::Refused(why) => {
-            refused(rt, why.number())?;
+    match FragmentationMap::load(s).answer {
+        Ok(n) => println!(rt; " {n}"),
+        Err(why) => {
+            print!(rt; " refused {}", why.number())?;
             match why {
-                LoadRefusal::CutShort(c) => cut(rt, c)?,
-                LoadRefusal::MapFull => say(rt, b" full")?,
+                LoadRefusal::CutShort(c) => println!(rt; " {}", Cut(c)),
+                LoadRefusal::MapFull => println!(rt; " full"),
             }
         }
     }
-    end(rt)
 }
 
 fn loads(rt: &impl Print) -> io::Result<()> {
-    say(
-        rt,
-        b"a stored map: three bytes, and a count of 2 with 55 bytes behind it\n",
-    )?;
+    println!(rt; "a stored map: three bytes, and a count of 2 with 55 bytes behind it")?;
     let mut s = [0u8; 59];
-    load(rt, part(&s, 0, 3))?;
+    load(rt, &s[..3])?;
     s[0] = 2;
     load(rt, &s)
 }
 
 // A merge of the file's bytes from 2 on, all but its last one; places count from the part's start.
 fn merged(rt: &impl Print, file: &[u8], at: usize) -> io::Result<()> {
+    println!(rt; "a merge's part from 2 on, cut in META")?;
     let none = Part {
         start: 0,
         length: 0,
@@ -162,27 +133,25 @@ fn merged(rt: &impl Print, file: &[u8], at: usize) -> io::Result<()> {
         file: 1,
         at,
     };
-    let m = MergeScanner { count: 1, parts }.next(file);
-    let a = m.answer;
-    match a {
-        MergeAnswer::Entry(_) => say(rt, b" entry")?,
-        MergeAnswer::End => say(rt, b" end")?,
-        MergeAnswer::Refused(why) => {
-            refused(rt, why.number())?;
+    match (MergeScanner { count: 1, parts }).next(file).answer {
+        Ok(Some(_)) => print!(rt; " entry"),
+        Ok(None) => print!(rt; " end"),
+        Err(why) => {
+            print!(rt; " refused {}", why.number())?;
             match why {
-                MergeRefusal::BadPart => say(rt, b" part")?,
-                MergeRefusal::Scan { part: _, why } => scan_refusal(rt, why)?,
+                MergeRefusal::BadPart => print!(rt; " part"),
+                MergeRefusal::Scan { part: _, why } => scan_refusal(rt, why),
             }
         }
-    }
-    end(rt)
+    }?;
+    println!(rt)
 }
 
 // One frame, 42 bytes, and META, written from `at` on.
 fn example(buf: &mut [u8], at: usize) {
     let mut w = Writer::new(1).use_target_size(0);
     w.offset = at;
-    w.append(buf, b"a", 7, b"xyz");
+    let _ = w.append(buf, b"a", 7, b"xyz");
 }
 
 pub fn edges(rt: &impl Print) -> io::Result<()> {
@@ -197,6 +166,5 @@ pub fn edges(rt: &impl Print) -> io::Result<()> {
     loads(rt)?;
     let mut later = [0u8; 48];
     example(&mut later, 2);
-    say(rt, b"a merge's part from 2 on, cut in META\n")?;
     merged(rt, &later, 42)
 }

@@ -1,56 +1,38 @@
 // Keys at their longest: "key of 65,535 taken, 65,536 refused". A record lies in a batch of 65,536 bytes, so none holds them.
-use crate::say::{all, end, pointer, refused, same, say};
-use frames::writer::{Appended, Writer};
-use numbers::bytes::part;
+use crate::shown::{Pointer, all, same};
+use frames::writer::Writer;
 use std::io;
-
-// A writer as it comes: nothing is counted, and no key lies anywhere.
-fn untouched(w: Writer) -> bool {
-    if w.offset != 0 {
-        return false;
-    }
-    if w.items != 0 {
-        return false;
-    }
-    if w.first.len != 0 {
-        return false;
-    }
-    w.last.len == 0
-}
 
 // A new writer's append, and whether a refusal left writer and buffer as they were.
 fn append(rt: &impl Print, buf: &mut [u8], key: &[u8]) -> io::Result<()> {
-    let a = Writer::new(1).append(buf, key, 0, b"");
-    match a {
-        Appended::Put(p, _) => {
-            say(rt, b" put")?;
-            pointer(rt, p)?;
+    let new = Writer::new(1);
+    match new.append(buf, key, 0, b"") {
+        Ok(a) => {
+            let put = if a.report.is_some() { "last" } else { "put" };
+            println!(rt; " {put} {}", Pointer(a.pointer))
         }
-        Appended::Last(p, _, _) => {
-            say(rt, b" last")?;
-            pointer(rt, p)?;
-        }
-        Appended::Refused(why, w) => {
-            refused(rt, why.number())?;
-            same(rt, untouched(w))?;
-            same(rt, all(buf, 0xee))?;
+        Err(refused) => {
+            let number = refused.why.number();
+            println!(rt;
+                " refused {number} {} {}",
+                same(refused.writer == new),
+                same(all(buf, 0xee))
+            )
         }
     }
-    end(rt)
 }
 
 pub fn edges(rt: &impl Print) -> io::Result<()> {
     let key = [7; 65536];
+    let longest = &key[..65535];
     let mut room = [0xee; 65577];
-    say(
-        rt,
-        b"1 bad key: 0 or more than 65,535 bytes; before 3\n65,536, room for more:",
-    )?;
+    println!(rt; "1 bad key: 0 or more than 65,535 bytes; before 3")?;
+    print!(rt; "65,536, room for more:")?;
     append(rt, &mut room, &key)?;
-    say(rt, b"65,536, no room:")?;
+    print!(rt; "65,536, no room:")?;
     append(rt, &mut [0xee; 8], &key)?;
-    say(rt, b"65,535, one byte too few:")?;
-    append(rt, &mut [0xee; 65576], part(&key, 0, 65535))?;
-    say(rt, b"65,535:")?;
-    append(rt, &mut room, part(&key, 0, 65535))
+    print!(rt; "65,535, one byte too few:")?;
+    append(rt, &mut [0xee; 65576], longest)?;
+    print!(rt; "65,535:")?;
+    append(rt, &mut room, longest)
 }

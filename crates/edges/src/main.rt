@@ -5,7 +5,7 @@ mod cuts;
 mod dead;
 mod keys;
 mod places;
-mod say;
+mod shown;
 
 use std::io;
 

@@ -2,50 +2,39 @@
 // by document 01's rules: a frame is 38 bytes, key and value, so the second one begins at 38 + 6 + 19.
 #![tactic(auto)]
 
+use anyhow::Result;
 use frames::reader::{look, value};
-use frames::scanner::{ScanEntry, Scanned, Scanner};
-use frames::writer::{Appended, Writer};
+use frames::scanner::{Scanned, Scanner};
+use frames::writer::Writer;
 use numbers::bytes::part;
-use std::io;
-
-fn say(rt: &impl Print, text: &[u8]) -> io::Result<()> {
-    rt.write_all(text)
-}
-
-fn entry(rt: &impl Print, file: &[u8], e: ScanEntry) -> io::Result<()> {
-    let key = e.key;
-    print!(rt; "frame at byte {}, key ", e.offset)?;
-    say(rt, part(file, key.at, key.len))?;
-    println!(rt)
-}
 
 // Every step but the last moves on, so a scan is over within as many steps as the file has bytes.
-fn list(rt: &impl Print, file: &[u8]) -> io::Result<()> {
+fn list(rt: &impl Print, file: &[u8]) -> Result<()> {
     let mut scanner = Scanner::new();
     for _ in 0..file.len() {
         let Scanned::Entry(e, next) = scanner.step(file) else {
-            return Ok(());
+            break;
         };
-        entry(rt, file, e)?;
+        print!(rt; "frame at byte {}, key ", e.offset)?;
+        rt.write_all(part(file, e.key.at, e.key.len))?;
+        println!(rt)?;
         scanner = next;
     }
     Ok(())
 }
 
-// A refusal has a case of its own in every answer; here it ends the program.
-fn main(rt: HostRuntime) -> io::Result<()> {
+// A refusal ends the program, which says why.
+fn main(rt: HostRuntime) -> Result<()> {
     let mut file = [0; 256];
-    let w = Writer::new(1);
-    let Appended::Put(engine, w) = w.append(&mut file, b"engine", 7, b"image of the engine") else {
-        return Ok(());
-    };
-    let Appended::Put(_, w) = w.append(&mut file, b"brakes", 9, b"image of the brakes") else {
-        return Ok(());
-    };
-    w.finish(&mut file);
+    let engine = Writer::new(1).append(&mut file, b"engine", 7, b"image of the engine")?;
+    let brakes = engine
+        .writer
+        .append(&mut file, b"brakes", 9, b"image of the brakes")?;
+    brakes.writer.finish(&mut file)?;
     list(&rt, &file)?;
-    let told = look(&file, b"engine", engine.handle);
+    let told = look(&file, b"engine", engine.pointer.handle);
     print!(rt; "engine, by its handle: ")?;
-    say(&rt, value(&file, told))?;
-    println!(rt)
+    rt.write_all(value(&file, told))?;
+    println!(rt)?;
+    Ok(())
 }

@@ -3,6 +3,7 @@ use Prim.Native.Nat.{ℕ, ◌+◌, ◌-◌, ◌<◌, ◌^◌}
 use mathlib.Core.Path.{◌≡◌, refl, sym, ◌∙◌}
 use mathlib.Core.List.{List, [], ◌++◌, append_assoc, append-nil}
 use mathlib.Core.Bool.{true, false}
+use Rattle.std.specs.Prelude.{Ok}
 use native.Mathlib.Omega.{arith}
 use borrow.Author.Tests.{eq-eqb}
 use lib.ListN.{length, take, drop, length-append, length-drop}
@@ -18,13 +19,12 @@ use Rattle.frames.specs.Layout.{blob, meta, header_length, Item, header_bytes, h
 use Rattle.frames.specs.LayoutLaws.{length-frame, le-blob, le-meta}
 use Rattle.frames.specs.Scan.{going, entry_of, frame_at, sum_at, step_of}
 use Rattle.frames.proofs.ScanLaws.{at-blob, frame-whole, checked-entry}
-use Rattle.frames.specs.Point.{told_of, part_of, taken_sum, within_of, no_cut}
-use Rattle.frames.proofs.PointLaws.{summed-found, within-whole, told-whole}
+use Rattle.frames.specs.Point.{told_by, found_of, read_of, part_of, taken_sum, within_of}
+use Rattle.frames.proofs.PointLaws.{tested-found, within-whole, found-whole}
 use Rattle.frames.specs.declared.header.Header.{Header}
-use Rattle.frames.specs.declared.scanner.Scanned.TheVariants as scanned
+use Rattle.frames.specs.declared.scanner.Step.TheVariants as step
 
 pub same_self : (a : Hash128) → same_sum a a ≡ true
-unfolding same_sum pick
 same_self a = simp (eq-eqb a.low a.low refl, eq-eqb a.high a.high refl)
 
 -- what follows a part that stands at n
@@ -153,14 +153,14 @@ module _ (i : Item) (small : Small i) (rest p : List ℕ) (e : p ≡ frame_bytes
     sum_back = sym (rw (key_back, value-back))
 
     -- the same key, seqno, stated length and value, at the same offset
-    pub step_back : step_of s (going at) ≡ scanned.Entry (entry_of at head) (going (at + header_length + length key + length value))
+    pub step_back : step_of s (going at) ≡ step.Entry (entry_of at head) (going (at + header_length + length key + length value))
     unfolding step_of
     step_back =
         let z = left in
         let y = size in
         checked-entry s (frame_at s (going at)) (entry_of at head) head.sum (going (at + header_length + length key + length value))
-        (at-blob s (going at) refl (length s - at) refl (omega arith) p d false (sym (rw le-meta starts-meta)) refl true (sym (rw le-blob starts-blob)) refl
-        ∙ frame-whole s (going at) p d head header-back (omega arith) (omega arith) (omega arith))
+        (at-blob s (going at) refl (omega arith) p d false (sym (rw le-meta starts-meta)) refl true (sym (rw le-blob starts-blob)) refl
+        ∙ frame-whole s (going at) (omega arith) p d head header-back (omega arith) (omega arith))
         head.sum sum_back true (sym (same_self head.sum)) refl
 
   -- the same of what a point read took, where nothing follows the frame
@@ -173,24 +173,25 @@ module _ (i : Item) (small : Small i) (rest p : List ℕ) (e : p ≡ frame_bytes
         sym (rw (a, b))
 
     pub within-back : (at : ℕ) → within_of p at (length key) (length value)
-        ≡ record { number = 0; value = record { at = at + header_length + length key; len = length value }; stored = head.sum; computed = head.sum; cut = no_cut }
+        ≡ Ok (record { value = record { at = at + header_length + length key; len = length value }; sum = head.sum })
     within-back at =
         let z : length p ≡ header_length + length key + length value = size ∙ rw alone (omega arith) in
         within-whole p at (length key) (length value) true (sym (rw le-blob starts-blob)) refl head header-back z (omega arith) head.sum sum-taken
-        ∙ summed-found _ head.sum head.sum true (sym (same_self head.sum)) refl
+        ∙ tested-found at _ head.sum head.sum true (sym (same_self head.sum)) refl
 
 -- a point read by the handle, with a key as long, finds the value
 module _ (i : Item) (small : Small i) (rest s : List ℕ) (h : ValueHandle) (n : h.size ≡ length i.value) (d : drop h.offset s ≡ frame_bytes i ++ rest) where
-  all_told : told_of s (length i.key) h
-      ≡ record { number = 0; value = record { at = h.offset + header_length + length i.key; len = length i.value }; stored = xxh3_128 (i.key ++ i.value); computed = xxh3_128 (i.key ++ i.value); cut = no_cut }
-  all_told =
+  all_found : found_of s (length i.key) h
+      ≡ Ok (record { value = record { at = h.offset + header_length + length i.key; len = length i.value }; sum = xxh3_128 (i.key ++ i.value) })
+  all_found =
       let f = frame_bytes i in
       let l : length f ≡ header_length + length i.key + h.size = length-frame i ∙ rw n in
       let a : length (drop h.offset s) ≡ length f + length rest = rw d (length-append f rest) in
       let b : length (drop h.offset s) ≡ length s - h.offset = length-drop h.offset s in
       let c : f ≡ take (header_length + length i.key + h.size) (drop h.offset s) = sym (rw d (take_at f rest (header_length + length i.key + h.size) l)) in
-      told-whole s (length i.key) h (length s - h.offset) refl (omega arith) f c
+      found-whole s (length i.key) h (omega arith) f c
       ∙ rw n (within-back i small [] f (sym (append-nil f)) refl h.offset)
 
-  pub told_back : ((told_of s (length i.key) h).number ≡ 0) × (part_of s (told_of s (length i.key) h) ≡ i.value)
-  told_back = (rw all_told, rw all_told (value-back i small rest (drop h.offset s) d s h.offset refl))
+  pub told_back : ((read_of s i.key h).number ≡ 0) × (part_of s (read_of s i.key h) ≡ i.value)
+  unfolding told_by
+  told_back = (rw all_found, rw all_found (value-back i small rest (drop h.offset s) d s h.offset refl))

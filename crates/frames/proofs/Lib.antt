@@ -2,6 +2,8 @@
 mod Theorems
 mod ScanLaws
 mod PointLaws
+mod GrowthLaws
+mod CountLaws
 mod Back
 mod Written
 mod Moved
@@ -9,3 +11,7 @@ mod Walking
 mod Short
 mod Sums
 mod Fields
+mod Mapped
+mod AnswerLaws
+mod PlainLaws
+mod FinishLaws

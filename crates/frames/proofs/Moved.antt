@@ -9,25 +9,22 @@ use lib.ListN.{length, drop}
 use lib.Dec.{ltb}
 use Rattle.numbers.specs.Pick.{pick}
 use Rattle.frames.specs.Layout.{blob, meta, header_of, starts, same_sum, header_length}
-use Rattle.frames.specs.Scan.{cut_at, reading, frame_of, frame_at, sum_at, checked_of, step_of}
-use Rattle.frames.proofs.ScanLaws.{at_ended, at_cut, checked-end, checked-cut}
+use Rattle.frames.specs.Scan.{Framed, Scanned, cut_at, reading, frame_of, frame_at, sum_at, checked_of, step_of}
+use Rattle.frames.proofs.ScanLaws.{at_ended, at_cut, checked-end, checked-refused}
 use Rattle.frames.specs.Scans.{after, is_over, over_within}
 use Rattle.frames.specs.Theorems.{Progress, Over}
 use Rattle.frames.specs.declared.header.Header.{Header}
 use Rattle.frames.specs.declared.scanner.Scanner.{Scanner}
 use Rattle.frames.specs.declared.scanner.FrameRefusal.TheVariants as frame
-use Rattle.frames.specs.declared.scanner.Framed.{Framed}
-use Rattle.frames.specs.declared.scanner.Framed.TheVariants as framed
+use Rattle.frames.specs.declared.scanner.Step.TheVariants as step
 use Rattle.frames.specs.declared.scanner.ScanEntry.{ScanEntry}
 use Rattle.frames.specs.declared.scanner.ScanRefusal.{ScanRefusal}
-use Rattle.frames.specs.declared.scanner.Scanned.{Scanned}
-use Rattle.frames.specs.declared.scanner.Scanned.TheVariants as scanned
 
 abbrev Moves : Scanner → Framed → Type 0
-Moves w (framed.Entry e sum next) = w.at + 4 ≤ next.at
-Moves w (framed.End at next) = w.at ≡ at
-Moves w (framed.Refused (frame.CutShort cut) next) = Unit
-Moves w (framed.Refused (frame.InvalidHeader at) next) = w.at + 4 ≤ next.at
+Moves w (step.Entry found next) = w.at + 4 ≤ next.at
+Moves w (step.End at next) = w.at ≡ at
+Moves w (step.Refused (frame.CutShort cut) next) = Unit
+Moves w (step.Refused (frame.InvalidHeader at) next) = w.at + 4 ≤ next.at
 
 either : (w : Scanner) (b : Bool) (x y : Framed) → Moves w x → Moves w y → Moves w (pick b x y)
 unfolding pick
@@ -57,29 +54,29 @@ either-after at false x y p q = q
 
 checked-moves : (s : List ℕ) (w : Scanner) (f : Framed) → Moves w f → is_over (checked_of s f) ≡ false → w.at + 4 ≤ (after (checked_of s f)).at
 unfolding checked_of is_over after pick
-checked-moves s w (framed.Entry e sum next) m h = either-after (w.at + 4) (same_sum sum (sum_at s e)) _ _ m m
-checked-moves s w (framed.End at next) m h = absurd (let z : ◌≡◌ {A = ℕ} 0 1 = cc in omega arith)
-checked-moves s w (framed.Refused (frame.CutShort cut) next) m h = absurd (let z : ◌≡◌ {A = ℕ} 0 1 = cc in omega arith)
-checked-moves s w (framed.Refused (frame.InvalidHeader at) next) m h = m
+checked-moves s w (step.Entry found next) m h = either-after (w.at + 4) (same_sum found.stored (sum_at s found.entry)) _ _ m m
+checked-moves s w (step.End at next) m h = absurd (let z : ◌≡◌ {A = ℕ} 0 1 = cc in omega arith)
+checked-moves s w (step.Refused (frame.CutShort cut) next) m h = absurd (let z : ◌≡◌ {A = ℕ} 0 1 = cc in omega arith)
+checked-moves s w (step.Refused (frame.InvalidHeader at) next) m h = m
 
 pub progress : Progress
 unfolding step_of
 progress s w h = checked-moves s w (frame_at s w) (moves s w) h
 
 -- a step that ends the scan ends it where it began
-neither : (b : Bool) (e : ScanEntry) (n next : Scanner) (why : ScanRefusal) (m : ℕ) → pick b (scanned.Entry e n) (scanned.Refused why n) ≡ scanned.End m next → ⊥
+neither : (b : Bool) (e : ScanEntry) (n next : Scanner) (why : ScanRefusal) (m : ℕ) → pick b (step.Entry e n) (step.Refused why n) ≡ step.End m next → ⊥
 unfolding pick
 neither true e n next why m h = let z : ◌≡◌ {A = ℕ} 0 1 = cc in omega arith
 neither false e n next why m h = let z : ◌≡◌ {A = ℕ} 0 1 = cc in omega arith
 
-checked-at : (s : List ℕ) (w next : Scanner) (m : ℕ) (f : Framed) → Moves w f → checked_of s f ≡ scanned.End m next → w.at ≡ m
+checked-at : (s : List ℕ) (w next : Scanner) (m : ℕ) (f : Framed) → Moves w f → checked_of s f ≡ step.End m next → w.at ≡ m
 unfolding checked_of pick
-checked-at s w next m (framed.Entry e sum n) p h = absurd (neither (same_sum sum (sum_at s e)) e n next _ m h)
-checked-at s w next m (framed.End at n) p h = p ∙ cc h
-checked-at s w next m (framed.Refused (frame.CutShort cut) n) p h = absurd (let z : ◌≡◌ {A = ℕ} 0 1 = cc in omega arith)
-checked-at s w next m (framed.Refused (frame.InvalidHeader at) n) p h = absurd (let z : ◌≡◌ {A = ℕ} 0 1 = cc in omega arith)
+checked-at s w next m (step.Entry found n) p h = absurd (neither (same_sum found.stored (sum_at s found.entry)) found.entry n next _ m h)
+checked-at s w next m (step.End at n) p h = p ∙ cc h
+checked-at s w next m (step.Refused (frame.CutShort cut) n) p h = absurd (let z : ◌≡◌ {A = ℕ} 0 1 = cc in omega arith)
+checked-at s w next m (step.Refused (frame.InvalidHeader at) n) p h = absurd (let z : ◌≡◌ {A = ℕ} 0 1 = cc in omega arith)
 
-pub end-at : (s : List ℕ) (w next : Scanner) (m : ℕ) → step_of s w ≡ scanned.End m next → w.at ≡ m
+pub end-at : (s : List ℕ) (w next : Scanner) (m : ℕ) → step_of s w ≡ step.End m next → w.at ≡ m
 unfolding step_of
 end-at s w next m q = checked-at s w next m (frame_at s w) (moves s w) q
 
@@ -87,7 +84,7 @@ end-at s w next m q = checked-at s w next m (frame_at s w) (moves s w) q
 few : (s : List ℕ) (w : Scanner) → length s - w.at < 4 → (b : Bool) → w.ended ≡ b → is_over (step_of s w) ≡ true
 unfolding step_of is_over
 few s w h true e = rw (checked-end s (frame_at s w) w.at w (at_ended s w e))
-few s w h false e = rw (checked-cut s (frame_at s w) _ _ w (at_cut s w e (length s - w.at) refl h) refl)
+few s w h false e = rw (checked-refused s (frame_at s w) _ w (at_cut s w e h))
 
 over_by : (n : ℕ) (s : List ℕ) (w : Scanner) → length s - w.at < 4 * suc n → (b : Bool) → is_over (step_of s w) ≡ b
     → (length s - (after (step_of s w)).at < 4 * n → over_within n s (after (step_of s w)) ≡ true) → over_within (suc n) s w ≡ true

@@ -3,29 +3,43 @@ use Prim.Native.Nat.{ℕ, ◌+◌, ◌-◌, ◌<◌, ◌≤◌}
 use mathlib.Core.Path.{◌≡◌, sym, ap, ◌∙◌}
 use mathlib.Core.List.{List}
 use mathlib.Core.Bool.{Bool, true, false}
+use Rattle.std.specs.Prelude.{Result, Ok, Err}
 use native.Mathlib.Omega.{arith}
 use borrow.Author.Tests.{lt-ltb, le-ltb}
 use lib.ListN.{length, take, drop, take-append-drop}
 use lib.Seq.{drop-drop}
 use Rattle.hash.specs.declared.Hash128.{Hash128}
 use Rattle.hash.specs.XXH3.{xxh3_128}
-use Rattle.numbers.specs.Pick.{pick}
 use Rattle.numbers.specs.Le.{le}
 use Rattle.numbers.specs.declared.handle.ValueHandle.{ValueHandle}
 use Rattle.frames.specs.Layout.{header_length, blob, header_of, starts, same_sum}
 use Rattle.frames.specs.LayoutLaws.{le-blob}
-use Rattle.frames.specs.Point.{no_place, no_cut, told, cut_told, summed, taken_sum, within_of, told_of}
+use Rattle.frames.specs.Cut.{cut_of}
+use Rattle.frames.specs.Point.{needing, tested, taken_sum, within_of, found_of}
 use Rattle.frames.specs.declared.place.Place.{Place}
 use Rattle.frames.specs.declared.header.Header.{Header}
+use Rattle.frames.specs.declared.reader.Found.{Found}
+use Rattle.frames.specs.declared.scanner.ScanRefusal.{ScanRefusal}
+use Rattle.frames.specs.declared.scanner.ScanRefusal.TheVariants as scan
 
-module _ (value : Place) (stored computed : Hash128) (o : Bool) (e : o ≡ same_sum stored computed) where
-  pub summed-found : o ≡ true → summed value stored computed ≡ record { number = 0; value = value; stored = stored; computed = computed; cut = no_cut }
-  unfolding summed pick
-  summed-found h = rw (← e, h)
+-- the bytes that a read needs are there, or not
+module _ (at needed present : ℕ) (more : Result Found ScanRefusal) where
+  pub needing-cut : present < needed → needing at needed present more ≡ Err (scan.CutShort (cut_of at needed present))
+  unfolding needing
+  needing-cut h = simp (lt-ltb _ _ h)
 
-  pub summed_wrong : o ≡ false → summed value stored computed ≡ record { number = 9; value = no_place; stored = stored; computed = computed; cut = no_cut }
-  unfolding summed pick
-  summed_wrong h = rw (← e, h)
+  pub needing-on : needed ≤ present → needing at needed present more ≡ more
+  unfolding needing
+  needing-on h = simp (le-ltb _ _ h)
+
+module _ (at : ℕ) (value : Place) (stored computed : Hash128) (o : Bool) (e : o ≡ same_sum stored computed) where
+  pub tested-found : o ≡ true → tested at value stored computed ≡ Ok (record { value = value; sum = stored })
+  unfolding tested
+  tested-found h = rw (← e, h)
+
+  pub tested_wrong : o ≡ false → tested at value stored computed ≡ Err (scan.Mismatch at stored computed)
+  unfolding tested
+  tested_wrong h = rw (← e, h)
 
 -- key and value in one part, where the header's key is as long as the given one
 pub taken_once : (t u : List ℕ) (hk k : ℕ) → hk ≡ k → u ≡ drop header_length t → xxh3_128 u ≡ taken_sum t hk k
@@ -37,31 +51,32 @@ module _ (t : List ℕ) (at k size : ℕ) (m : Bool) (e : m ≡ starts (le 4 0x4
   is-blob : starts blob t ≡ m
   is-blob = sym (e ∙ rw le-blob)
 
-  pub within-other : m ≡ false → within_of t at k size ≡ told 8 no_cut
-  unfolding within_of pick
+  pub within-other : m ≡ false → within_of t at k size ≡ Err (scan.InvalidHeader at)
+  unfolding within_of
   within-other h = simp (is-blob, h)
 
   module _ (b : m ≡ true) (h : Header) (f : h ≡ header_of t) (l : length t ≡ header_length + k + size) where
     left : length t - header_length ≡ k + size
     left = omega arith
 
-    pub within-short : k + size < h.key → within_of t at k size ≡ cut_told (at + header_length) h.key (k + size)
-    unfolding within_of pick
-    within-short less =
-        rw (← f) (simp (is-blob, b, left, lt-ltb _ _ less))
+    marked : within_of t at k size ≡ needing (at + header_length) h.key (k + size) (tested at (record { at = at + header_length + k; len = size }) h.sum (taken_sum t h.key k))
+    unfolding within_of
+    marked = rw (← f) (simp (is-blob, b, left))
+
+    pub within-short : k + size < h.key → within_of t at k size ≡ Err (scan.CutShort (cut_of (at + header_length) h.key (k + size)))
+    within-short less = marked ∙ needing-cut (at + header_length) h.key (k + size) _ less
 
     pub within-whole : h.key ≤ k + size → (x : Hash128) → x ≡ taken_sum t h.key k
-        → within_of t at k size ≡ summed (record { at = at + header_length + k; len = size }) h.sum x
-    unfolding within_of pick
-    within-whole fits x q =
-        rw (← f, q) (simp (is-blob, b, left, le-ltb _ _ fits))
+        → within_of t at k size ≡ tested at (record { at = at + header_length + k; len = size }) h.sum x
+    within-whole fits x q = rw q (marked ∙ needing-on (at + header_length) h.key (k + size) _ fits)
 
-module _ (s : List ℕ) (k : ℕ) (h : ValueHandle) (r : ℕ) (e : r ≡ length s - h.offset) where
-  pub told-cut : r < header_length + k + h.size → told_of s k h ≡ cut_told h.offset (header_length + k + h.size) r
-  unfolding told_of pick
-  told-cut l = simp (← e, lt-ltb _ _ l)
+module _ (s : List ℕ) (k : ℕ) (h : ValueHandle) where
+  pub found-cut : length s - h.offset < header_length + k + h.size
+      → found_of s k h ≡ Err (scan.CutShort (cut_of h.offset (header_length + k + h.size) (length s - h.offset)))
+  unfolding found_of
+  found-cut l = needing-cut h.offset (header_length + k + h.size) (length s - h.offset) _ l
 
-  pub told-whole : header_length + k + h.size ≤ r → (t : List ℕ) → t ≡ take (header_length + k + h.size) (drop h.offset s)
-      → told_of s k h ≡ within_of t h.offset k h.size
-  unfolding told_of pick
-  told-whole l t q = rw q (simp (← e, le-ltb _ _ l))
+  pub found-whole : header_length + k + h.size ≤ length s - h.offset → (t : List ℕ) → t ≡ take (header_length + k + h.size) (drop h.offset s)
+      → found_of s k h ≡ within_of t h.offset k h.size
+  unfolding found_of
+  found-whole l t q = rw q (needing-on h.offset (header_length + k + h.size) (length s - h.offset) _ l)

@@ -14,8 +14,8 @@ use Rattle.numbers.specs.Le.{num}
 use Rattle.numbers.specs.declared.cut.CutShort.{CutShort}
 use Rattle.frames.specs.Layout.{blob, meta, header_length, header_of, starts}
 use Rattle.frames.specs.LayoutLaws.{le-blob, le-meta}
-use Rattle.frames.specs.Scan.{going, cut_at, entry_of, frame_of, frame_at, part_at, sum_at, step_of}
-use Rattle.frames.proofs.ScanLaws.{at_cut, at-blob, frame-header, frame-key, frame-value, frame-whole, checked-cut, checked-entry}
+use Rattle.frames.specs.Scan.{Scanned, going, cut_at, entry_of, frame_of, frame_at, part_at, sum_at, step_of}
+use Rattle.frames.proofs.ScanLaws.{at_cut, at-blob, frame-header, frame-key, frame-value, frame-whole, checked-refused, checked-entry}
 use Rattle.frames.specs.Scans.{Walk, go_on, walk_from, ahead, ends_at, begin_at, whole_before}
 use Rattle.frames.specs.Theorems.{Cut}
 use Rattle.frames.specs.declared.place.Place.{Place}
@@ -23,8 +23,7 @@ use Rattle.frames.specs.declared.header.Header.{Header}
 use Rattle.frames.specs.declared.scanner.Scanner.{Scanner}
 use Rattle.frames.specs.declared.scanner.ScanEntry.{ScanEntry}
 use Rattle.frames.specs.declared.scanner.ScanRefusal.TheVariants as scan
-use Rattle.frames.specs.declared.scanner.Scanned.{Scanned}
-use Rattle.frames.specs.declared.scanner.Scanned.TheVariants as scanned
+use Rattle.frames.specs.declared.scanner.Step.TheVariants as step
 use Rattle.frames.specs.StepLaws.{Whole, whole}
 use Rattle.frames.proofs.Moved.{end-at}
 use Rattle.frames.proofs.Walking.{walk_on_lem, walk_entry, walk_refused}
@@ -70,11 +69,11 @@ part-take s cut p h = rw (drop-take p.at cut s) (take-take p.len (cut - p.at) (d
 -- A step over a frame of which the file is cut at a byte.
 
 abbrev Short : List ℕ → Scanner → Type 0
-Short s w = (cut : CutShort) × (step_of s w ≡ scanned.Refused (scan.CutShort cut) w)
+Short s w = (cut : CutShort) × (step_of s w ≡ step.Refused (scan.CutShort cut) w)
 
 few : (s : List ℕ) (w : Scanner) → w.ended ≡ false → length s - w.at < 4 → Short s w
 unfolding step_of
-few s w on h = (_, checked-cut s (frame_at s w) _ _ w (at_cut s w on (length s - w.at) refl h) refl)
+few s w on h = (_, checked-refused s (frame_at s w) _ w (at_cut s w on h))
 
 module _ (s : List ℕ) (cut : ℕ) (w : Scanner) (e : ScanEntry) (next : Scanner) (p : Whole s w (header_of (drop w.at s)) e next) where
   abbrev h : Header
@@ -108,7 +107,7 @@ module _ (s : List ℕ) (cut : ℕ) (w : Scanner) (e : ScanEntry) (next : Scanne
   marked f =
       let x = room in
       let y = long in
-      at-blob (take cut s) w p.on (length (take cut s) - w.at) refl (omega arith) there refl false (sym (rw le-meta (no_end f))) refl true (sym (rw le-blob (mark f))) refl
+      at-blob (take cut s) w p.on (omega arith) there refl false (sym (rw le-meta (no_end f))) refl true (sym (rw le-blob (mark f))) refl
 
   sum_same : w.at + header_length + h.key + h.size ≤ cut → sum_at (take cut s) e ≡ sum_at s e
   unfolding sum_at
@@ -118,18 +117,18 @@ module _ (s : List ℕ) (cut : ℕ) (w : Scanner) (e : ScanEntry) (next : Scanne
       rw (← p.entry, k, v)
 
   -- whole before the cut
-  before : w.at + header_length + h.key + h.size ≤ cut → step_of (take cut s) w ≡ scanned.Entry e next
+  before : w.at + header_length + h.key + h.size ≤ cut → step_of (take cut s) w ≡ step.Entry e next
   unfolding step_of
   before f =
       let x = room in
       let y = long in
       let z = size in
-      let a = marked (omega arith) ∙ frame-whole (take cut s) w there refl h (header (omega arith)) (omega arith) (omega arith) (omega arith) in
+      let a = marked (omega arith) ∙ frame-whole (take cut s) w (omega arith) there refl h (header (omega arith)) (omega arith) (omega arith) in
       checked-entry (take cut s) (frame_at (take cut s) w) e h.sum next (rw (← p.entry, ← p.next) a) (sum_at s e) (sym (sum_same f)) true (sym p.same) refl
 
   cut_short : (at needed present : ℕ) → frame_of (take cut s) w ≡ cut_at at needed present w → w.at + 4 ≤ cut → Short (take cut s) w
   unfolding step_of
-  cut_short at needed present q f = (_, checked-cut (take cut s) (frame_at (take cut s) w) _ _ w (marked f ∙ q) refl)
+  cut_short at needed present q f = (_, checked-refused (take cut s) (frame_at (take cut s) w) _ w (marked f ∙ q))
 
   -- not whole
   across : cut < w.at + header_length + h.key + h.size → Short (take cut s) w
@@ -141,17 +140,17 @@ module _ (s : List ℕ) (cut : ℕ) (w : Scanner) (e : ScanEntry) (next : Scanne
           let x = room in
           let y = long in
           let z = size in
-          cut_short _ _ _ (frame-header (take cut s) w there refl (omega arith) (omega arith)) (omega arith)
+          cut_short _ _ _ (frame-header (take cut s) w (omega arith)) (omega arith)
       by (no a) (no b) (yes c) =
           let x = room in
           let y = long in
           let z = size in
-          cut_short _ _ _ (frame-key (take cut s) w there refl h (header (omega arith)) (omega arith) (omega arith)) (omega arith)
+          cut_short _ _ _ (frame-key (take cut s) w (omega arith) there refl h (header (omega arith)) (omega arith)) (omega arith)
       by (no a) (no b) (no c) =
           let x = room in
           let y = long in
           let z = size in
-          cut_short _ _ _ (frame-value (take cut s) w there refl h (header (omega arith)) (omega arith) (omega arith) (omega arith)) (omega arith)
+          cut_short _ _ _ (frame-value (take cut s) w (omega arith) there refl h (header (omega arith)) (omega arith) (omega arith)) (omega arith)
 
   -- where the step after the frame begins
   ends-at : next.at ≡ w.at + header_length + h.key + h.size
@@ -163,30 +162,30 @@ module _ (s : List ℕ) (cut : ℕ) (w : Scanner) (e : ScanEntry) (next : Scanne
 -- The scan of the whole file, taken apart at its first step.
 
 module _ (s : List ℕ) (m : ℕ) where
-  only_end : (w : Scanner) → walk_from s w ≡ ends_at [] m → step_of s w ≡ scanned.End m (record { at = m; ended = true })
+  only_end : (w : Scanner) → walk_from s w ≡ ends_at [] m → step_of s w ≡ step.End m (record { at = m; ended = true })
   unfolding go_on
   only_end w q = by (step_of s w) refl (sym (walk_on_lem s w) ∙ q)
     where
-      by : (x : Scanned) → step_of s w ≡ x → go_on x (walk_from s) ≡ ends_at [] m → step_of s w ≡ scanned.End m (record { at = m; ended = true })
-      by (scanned.Entry e next) p g = absurd (let l : e ∷ (walk_from s next).entries ≡ [] = ap (λ (v : Walk). v.entries) g in let z : ◌≡◌ {A = ℕ} 0 1 = cc in omega arith)
-      by (scanned.End at next) p g = p ∙ ap (λ (v : Walk). v.last) g
-      by (scanned.Refused why next) p g = p ∙ ap (λ (v : Walk). v.last) g
+      by : (x : Scanned) → step_of s w ≡ x → go_on x (walk_from s) ≡ ends_at [] m → step_of s w ≡ step.End m (record { at = m; ended = true })
+      by (step.Entry e next) p g = absurd (let l : e ∷ (walk_from s next).entries ≡ [] = ap (λ (v : Walk). v.entries) g in let z : ◌≡◌ {A = ℕ} 0 1 = cc in omega arith)
+      by (step.End at next) p g = p ∙ ap (λ (v : Walk). v.last) g
+      by (step.Refused why next) p g = p ∙ ap (λ (v : Walk). v.last) g
 
   an_entry : (w : Scanner) (e : ScanEntry) (es : List ScanEntry) → walk_from s w ≡ ends_at (e ∷ es) m
-      → (next : Scanner) × (step_of s w ≡ scanned.Entry e next) × (walk_from s next ≡ ends_at es m)
+      → (next : Scanner) × (step_of s w ≡ step.Entry e next) × (walk_from s next ≡ ends_at es m)
   unfolding go_on
   an_entry w e es q = by (step_of s w) refl (sym (walk_on_lem s w) ∙ q)
     where
       by : (x : Scanned) → step_of s w ≡ x → go_on x (walk_from s) ≡ ends_at (e ∷ es) m
-          → (next : Scanner) × (step_of s w ≡ scanned.Entry e next) × (walk_from s next ≡ ends_at es m)
-      by (scanned.Entry f next) p g =
+          → (next : Scanner) × (step_of s w ≡ step.Entry e next) × (walk_from s next ≡ ends_at es m)
+      by (step.Entry f next) p g =
           let l : f ∷ (walk_from s next).entries ≡ e ∷ es = ap (λ (v : Walk). v.entries) g in
           let a : f ≡ e = cc in
           let b : (walk_from s next).entries ≡ es = cc in
-          let c : (walk_from s next).last ≡ scanned.End m (record { at = m; ended = true }) = ap (λ (v : Walk). v.last) g in
+          let c : (walk_from s next).last ≡ step.End m (record { at = m; ended = true }) = ap (λ (v : Walk). v.last) g in
           (next, p ∙ rw a, λ i. record { entries = b i; last = c i })
-      by (scanned.End at next) p g = absurd (let l : [] ≡ e ∷ es = ap (λ (v : Walk). v.entries) g in let z : ◌≡◌ {A = ℕ} 0 1 = cc in omega arith)
-      by (scanned.Refused why next) p g = absurd (let l : [] ≡ e ∷ es = ap (λ (v : Walk). v.entries) g in let z : ◌≡◌ {A = ℕ} 0 1 = cc in omega arith)
+      by (step.End at next) p g = absurd (let l : [] ≡ e ∷ es = ap (λ (v : Walk). v.entries) g in let z : ◌≡◌ {A = ℕ} 0 1 = cc in omega arith)
+      by (step.Refused why next) p g = absurd (let l : [] ≡ e ∷ es = ap (λ (v : Walk). v.entries) g in let z : ◌≡◌ {A = ℕ} 0 1 = cc in omega arith)
 
   -- the first step begins where the scanner stands
   begins : (es : List ScanEntry) (w : Scanner) → walk_from s w ≡ ends_at es m → begin_at es m ≡ w.at
@@ -197,12 +196,12 @@ module _ (s : List ℕ) (m : ℕ) where
 
   -- the entries, and then 7
   abbrev Stops : List ℕ → Scanner → List ScanEntry → Type 0
-  Stops t w es = (at : ℕ) × (why : CutShort) × (walk_from t w ≡ record { entries = es; last = scanned.Refused (scan.CutShort why) (going at) })
+  Stops t w es = (at : ℕ) × (why : CutShort) × (walk_from t w ≡ record { entries = es; last = step.Refused (scan.CutShort why) (going at) })
 
   here : (t : List ℕ) (w : Scanner) → w.ended ≡ false → Short t w → Stops t w []
   here t w on c =
       let v : w ≡ going w.at = λ i. record { at = w.at; ended = on i } in
-      (w.at, c.0, walk_refused t w w _ c.1 ∙ ap (λ (x : Scanner). record { entries = []; last = scanned.Refused (scan.CutShort c.0) x }) v)
+      (w.at, c.0, walk_refused t w w _ c.1 ∙ ap (λ (x : Scanner). record { entries = []; last = step.Refused (scan.CutShort c.0) x }) v)
 
   module _ (cut : ℕ) (h : cut < m + 4) where
     stops : (es : List ScanEntry) (w : Scanner) → w.ended ≡ false → walk_from s w ≡ ends_at es m → Stops (take cut s) w (whole_before cut es m)
@@ -215,7 +214,7 @@ module _ (s : List ℕ) (m : ℕ) where
         let p = an_entry w e es q in
         by p.0 p.1 (begins es p.0 p.2) (stops es p.0 (stays_on s cut w e p.0 (whole s w e p.0 p.1)) p.2) (dec_lt cut p.0.at)
       where
-        by : (next : Scanner) → step_of s w ≡ scanned.Entry e next → begin_at es m ≡ next.at → Stops (take cut s) next (whole_before cut es m) → Dec (cut < next.at)
+        by : (next : Scanner) → step_of s w ≡ step.Entry e next → begin_at es m ≡ next.at → Stops (take cut s) next (whole_before cut es m) → Dec (cut < next.at)
             → Stops (take cut s) w (pick (leb (begin_at es m) cut) (e ∷ whole_before cut es m) [])
         by next x b more (yes c) =
             let p = whole s w e next x in

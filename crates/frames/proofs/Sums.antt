@@ -8,15 +8,9 @@ use Rattle.hash.specs.declared.Hash128.{Hash128}
 use Rattle.hash.specs.XXH3.{xxh3_128}
 use Rattle.frames.specs.Point.{taken_sum}
 use Rattle.frames.proofs.PointLaws.{taken_once}
-use Rattle.frames.specs.Scan.{part_at, sum_at, frame_at, checked_of, step_of}
+use Rattle.frames.specs.Scan.{Framed, Scanned, part_at, sum_at, frame_at, checked_of, step_of}
 use Rattle.frames.specs.declared.scanner.Scanner.{Scanner}
 use Rattle.frames.specs.declared.scanner.ScanEntry.{ScanEntry}
-use Rattle.frames.specs.declared.scanner.Framed.{Framed}
-use Rattle.frames.specs.declared.scanner.Scanned.{Scanned}
-
--- of the bytes at a place
-pub part_law : (s p : List ℕ) (at len : ℕ) (r : Hash128) → p ≡ take len (drop at s) → r ≡ xxh3_128 p → r ≡ xxh3_128 (take len (drop at s))
-part_law s p at len r e h = rw (h, e)
 
 -- of what was taken, in one part or in two
 module _ (t : List ℕ) (hk k : ℕ) (r : Hash128) where

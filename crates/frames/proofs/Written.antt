@@ -23,7 +23,7 @@ use Rattle.frames.specs.Theorems.{entry_for, entries_for, Lies, Found, written, 
 use Rattle.frames.specs.declared.writer.Writer.{Writer}
 use Rattle.frames.specs.declared.writer.Report.{Report}
 use Rattle.frames.specs.declared.scanner.ScanEntry.{ScanEntry}
-use Rattle.frames.specs.declared.scanner.Scanned.TheVariants as scanned
+use Rattle.frames.specs.declared.scanner.Step.TheVariants as scanned
 use Rattle.frames.proofs.Back.{Small, after, step_back, key_back, value-back, told_back}
 use Rattle.frames.proofs.Walking.{walk_entry, walk_end}
 
@@ -111,7 +111,7 @@ unfolding step_of starts pick
 end s rest at d =
     let a : length (drop at s) ≡ length s - at = length-drop at s in
     let b : length (drop at s) ≡ 4 + length rest = rw d (length-append meta rest) in
-    checked-end s (frame_at s (going at)) at _ (at-meta s (going at) refl (length s - at) refl (omega arith) (drop at s) refl true (sym (rw (le-meta, d))) refl)
+    checked-end s (frame_at s (going at)) at _ (at-meta s (going at) refl (omega arith) (drop at s) refl true (sym (rw (le-meta, d))) refl)
 
 module _ (w : Writer) (s : List ℕ) (cs : List Call) (o : w.offset ≡ 0) (on : w.finished ≡ false) (t : Typed cs) where
   abbrev r : Run

@@ -1,5 +1,5 @@
 -- What one call comes to, on an unfinished writer and on a finished one, whatever the form of frame.
-use Rattle.std.specs.Prelude.{ℕ, ◌+◌, ◌<◌, ◌≤◌, ◌^◌, ◌≡◌, Bool, ltb, eqb}
+use Rattle.std.specs.Prelude.{ℕ, ◌+◌, ◌<◌, ◌≤◌, ◌^◌, ◌≡◌, Bool, ltb, eqb, Some, None, Result, Ok, Err}
 use Rattle.std.proofs.Math.Path.{refl, ap, subst}
 use Rattle.std.proofs.Common.{sym, true≢false, arith, ltb-false}
 use mathlib.Core.List.{List, [], ◌∷◌, ◌++◌, append-nil}
@@ -9,20 +9,18 @@ use Rattle.std.proofs.lemmas.List.Edits.{sets}
 use Rattle.numbers.specs.Pick.{pick}
 use Rattle.frames.specs.Layout.{meta, Item}
 use Rattle.frames.specs.Shape.{item_of, plain_of, Form, shape_of}
-use Rattle.frames.specs.Write.{targeted, report_of, judged, grown, pointer_of, accepted_as, end_bytes, closed_as, answer_of, bytes_of}
+use Rattle.frames.specs.Write.{targeted, report_of, judged, grown, pointer_of, accepted_as, handed_back, end_bytes, closed_as, answer_of, bytes_of}
 use Rattle.frames.specs.Write.{answered, append_bytes, finish_answer, closed_bytes, finish_bytes}
 use Rattle.frames.specs.WriteLaws.{Taken, taken, judge_finished, some_number}
 use Rattle.frames.specs.Runs.{Call, append, append_raw, use_target, finish, TypedCall, Frame, Run, append_run, finish_run, appending, called, all_bytes}
 use Rattle.frames.specs.declared.writer.Writer.{Writer}
 use Rattle.frames.specs.declared.writer.Report.{Report}
-use Rattle.frames.specs.declared.writer.FinishRefusal.{FinishRefusal}
-use Rattle.frames.specs.declared.writer.FinishRefusal.TheVariants as finishRefusal
-use Rattle.frames.specs.declared.writer.Judged.{Judged}
-use Rattle.frames.specs.declared.writer.Judged.TheVariants.{Go, No}
-use Rattle.frames.specs.declared.writer.AppendRefusal.TheVariants.{Finished}
-use Rattle.frames.specs.declared.writer.Appended.TheVariants as appended
 use Rattle.frames.specs.declared.writer.Closed.{Closed}
-use Rattle.frames.specs.declared.writer.Closed.TheVariants as closed
+use Rattle.frames.specs.declared.refused.Refused.{Refused}
+use Rattle.frames.specs.declared.refused.AppendRefusal.{AppendRefusal}
+use Rattle.frames.specs.declared.refused.AppendRefusal.TheVariants.{Finished}
+use Rattle.frames.specs.declared.refused.FinishRefusal.{FinishRefusal}
+use Rattle.frames.specs.declared.refused.FinishRefusal.TheVariants as finishRefusal
 use Rattle.frames.specs.Ran.{grown_by, settled, Ran, Still}
 use Rattle.frames.specs.GrownLaws.{Sized}
 
@@ -78,16 +76,20 @@ module _ (form : Form) (sized : Sized form) where
         }
 
     by-finished : (b : Bool) → new.finished ≡ b → Taken w (length s) (shape_of form i)
-        → Ran form w s (append_run i (sets s w.offset (form.bytes i ++ end_bytes b)) (pick b (appended.Last (pointer_of w (shape_of form i)) new (report_of new)) (appended.Put (pointer_of w (shape_of form i)) new)))
+        → Ran form w s (append_run i (sets s w.offset (form.bytes i ++ end_bytes b)) (Ok (record { pointer = pointer_of w (shape_of form i); writer = new; report = pick b (Some (report_of new)) None })))
     unfolding append_run pick
     by-finished true e g = one true e _ refl g
     by-finished false e g = one false e _ refl g
 
-    by-judged : w.finished ≡ false → (j : Judged) → judged w (length s) (shape_of form i) ≡ j
-        → Ran form w s (append_run i (bytes_of j w s (shape_of form i) (form.bytes i)) (answer_of j w (shape_of form i)))
-    unfolding accepted_as append_run grown pick
-    by-judged on Go e = by-finished new.finished refl (taken w (length s) (shape_of form i) Go (sym e) refl)
-    by-judged on (No why) e = unchanged w s on
+    abbrev Answers : Result Writer AppendRefusal → Type 0
+    Answers j = let a = answer_of j w (shape_of form i) in Ran form w s (append_run i (bytes_of a w s (form.bytes i)) a)
+
+    by-judged : w.finished ≡ false → (j : Result Writer AppendRefusal) → judged w (length s) (shape_of form i) ≡ j → Answers j
+    unfolding accepted_as append_run pick
+    by-judged on (Ok after) e =
+        let t = taken w (length s) (shape_of form i) after e in
+        subst (λ (x : Writer). Answers (Ok x)) t.1 (by-finished new.finished refl t.0)
+    by-judged on (Err why) e = unchanged w s on
 
     ran_append : w.finished ≡ false → Ran form w s (appending form i w s)
     unfolding answered append_bytes
@@ -108,25 +110,25 @@ module _ (form : Form) (sized : Sized form) where
       reports = refl;
     }
 
-    abbrev Ends : Closed → Type 0
+    abbrev Ends : Result Closed (Refused FinishRefusal) → Type 0
     Ends a = Ran form w s (finish_run (closed_bytes a w s) a)
 
-    refused : (why : FinishRefusal) → Ends (closed.Refused why w)
+    refused : (why : FinishRefusal) → Ends (Err (handed_back w why))
     unfolding finish_run
     refused why = unchanged w s on
 
-    by-room : 0 < w.items → (c : Bool) → ltb (length s) (w.offset + 4) ≡ c → Ends (pick c (closed.Refused finishRefusal.NoRoom w) (closed.Done (closed_as w) (report_of (closed_as w))))
+    by-room : 0 < w.items → (c : Bool) → ltb (length s) (w.offset + 4) ≡ c → Ends (pick c (Err (handed_back w finishRefusal.NoRoom)) (Ok (record { writer = closed_as w; report = report_of (closed_as w) })))
     unfolding finish_run pick
     by-room some true e = refused finishRefusal.NoRoom
     by-room some false e = done (ltb-false _ _ e) some
 
     by-items : (c : Bool) → eqb w.items 0 ≡ c
-        → Ends (pick c (closed.Refused finishRefusal.NothingWritten w) (pick (ltb (length s) (w.offset + 4)) (closed.Refused finishRefusal.NoRoom w) (closed.Done (closed_as w) (report_of (closed_as w)))))
+        → Ends (pick c (Err (handed_back w finishRefusal.NothingWritten)) (pick (ltb (length s) (w.offset + 4)) (Err (handed_back w finishRefusal.NoRoom)) (Ok (record { writer = closed_as w; report = report_of (closed_as w) }))))
     unfolding pick
     by-items true e = refused finishRefusal.NothingWritten
     by-items false e = by-room (some_number w.items e) (ltb (length s) (w.offset + 4)) refl
 
-    by-finished-before : (c : Bool) → Ends (pick c (closed.Refused finishRefusal.Finished w) (pick (eqb w.items 0) (closed.Refused finishRefusal.NothingWritten w) (pick (ltb (length s) (w.offset + 4)) (closed.Refused finishRefusal.NoRoom w) (closed.Done (closed_as w) (report_of (closed_as w))))))
+    by-finished-before : (c : Bool) → Ends (pick c (Err (handed_back w finishRefusal.Finished)) (pick (eqb w.items 0) (Err (handed_back w finishRefusal.NothingWritten)) (pick (ltb (length s) (w.offset + 4)) (Err (handed_back w finishRefusal.NoRoom)) (Ok (record { writer = closed_as w; report = report_of (closed_as w) })))))
     unfolding pick
     by-finished-before true = refused finishRefusal.Finished
     by-finished-before false = by-items (eqb w.items 0) refl
@@ -153,7 +155,7 @@ module _ (form : Form) (w : Writer) (s : List ℕ) (off : w.finished ≡ true) w
   still_append : (i : Item) → Still w s (appending form i w s)
   unfolding answered append_bytes append_run
   still_append i =
-      let e : judged w (length s) (shape_of form i) ≡ No Finished = judge_finished w (length s) (shape_of form i) off in
+      let e : judged w (length s) (shape_of form i) ≡ Err Finished = judge_finished w (length s) (shape_of form i) off in
       still_as w s _ (rw e)
 
   still_finish : Still w s (finish_run (finish_bytes w s) (finish_answer w (length s)))

@@ -1,5 +1,5 @@
 -- The frame: document 01, "The frame".
-use Rattle.std.specs.Prelude.{ℕ, List, [], ◌∷◌, ◌++◌, Bool, true, false, eqb, length, drop}
+use Rattle.std.specs.Prelude.{ℕ, List, [], ◌∷◌, ◌++◌, Bool, true, false, ◌&&◌, eqb, length, drop}
 use Rattle.hash.specs.declared.Hash128.{Hash128}
 use Rattle.hash.specs.XXH3.{xxh3_128}
 use Rattle.numbers.specs.Pick.{pick}
@@ -56,5 +56,5 @@ starts (m ∷ mark) [] = false
 starts (m ∷ mark) (b ∷ p) = pick (eqb b m) (starts mark p) false
 
 -- whether two sums are the same, both halves
-unfoldable pub same_sum : Hash128 → Hash128 → Bool
-same_sum a b = pick (eqb a.low b.low) (eqb a.high b.high) false
+abbrev pub same_sum : Hash128 → Hash128 → Bool
+same_sum a b = eqb a.low b.low && eqb a.high b.high

@@ -1,5 +1,6 @@
--- Read first: Layout, Refusals, Shape, Write, Scan, Point, Held, which are document 01; then Runs, Scans, Theorems; the others are laws that other crates' proofs cite, and what they stand on.
+-- Read first: Layout, Cut, Refusals, Shape, Write, Scan, Point, Held, which are document 01; then Runs, Scans, Theorems; the others are laws that other crates' proofs cite, and what they stand on.
 pub mod Layout
+pub mod Cut
 pub mod Refusals
 pub mod Shape
 pub mod Write

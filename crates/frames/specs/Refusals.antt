@@ -1,28 +1,26 @@
 -- Document 01's number for each refusal, and the values that come with it: the definitions of the answers name their refusals by these.
-use Rattle.std.specs.Prelude.{ℕ, ◌≡◌, List, [], ◌∷◌}
+use Rattle.std.specs.Prelude.{ℕ, ◌≡◌, refl, List, [], ◌∷◌, Result, Err}
 use Rattle.numbers.specs.Refusals.{values_of_cut}
+use Rattle.numbers.specs.declared.cut.CutShort.{CutShort}
 use Rattle.frames.specs.declared.writer.Writer.{Writer}
-use Rattle.frames.specs.declared.writer.AppendRefusal.{AppendRefusal}
-use Rattle.frames.specs.declared.writer.AppendRefusal.TheVariants as append
-use Rattle.frames.specs.declared.writer.FinishRefusal.{FinishRefusal}
-use Rattle.frames.specs.declared.writer.FinishRefusal.TheVariants as finish
-use Rattle.frames.specs.declared.writer.NextRefusal.{NextRefusal}
-use Rattle.frames.specs.declared.writer.NextRefusal.TheVariants as next
-use Rattle.frames.specs.declared.writer.Judged.{Judged}
-use Rattle.frames.specs.declared.writer.Judged.TheVariants as judged
 use Rattle.frames.specs.declared.writer.Closed.{Closed}
-use Rattle.frames.specs.declared.writer.Closed.TheVariants as closed
-use Rattle.frames.specs.declared.writer.Opened.{Opened}
-use Rattle.frames.specs.declared.writer.Opened.TheVariants as opened
+use Rattle.frames.specs.declared.refused.Refused.{Refused}
+use Rattle.frames.specs.declared.refused.AppendRefusal.{AppendRefusal}
+use Rattle.frames.specs.declared.refused.AppendRefusal.TheVariants as append
+use Rattle.frames.specs.declared.refused.FinishRefusal.{FinishRefusal}
+use Rattle.frames.specs.declared.refused.FinishRefusal.TheVariants as finish
+use Rattle.frames.specs.declared.refused.NextRefusal.{NextRefusal}
+use Rattle.frames.specs.declared.refused.NextRefusal.TheVariants as next
 use Rattle.frames.specs.declared.scanner.Scanner.{Scanner}
+use Rattle.frames.specs.declared.scanner.ScanEntry.{ScanEntry}
+use Rattle.frames.specs.declared.scanner.Untested.{Untested}
 use Rattle.frames.specs.declared.scanner.FrameRefusal.{FrameRefusal}
 use Rattle.frames.specs.declared.scanner.FrameRefusal.TheVariants as frame
 use Rattle.frames.specs.declared.scanner.ScanRefusal.{ScanRefusal}
 use Rattle.frames.specs.declared.scanner.ScanRefusal.TheVariants as scan
-use Rattle.frames.specs.declared.scanner.Framed.{Framed}
-use Rattle.frames.specs.declared.scanner.Framed.TheVariants as framed
-use Rattle.frames.specs.declared.scanner.Scanned.{Scanned}
-use Rattle.frames.specs.declared.scanner.Scanned.TheVariants as scanned
+use Rattle.frames.specs.declared.scanner.Step.{Step}
+use Rattle.frames.specs.declared.scanner.Step.TheVariants as step
+use Rattle.frames.specs.declared.reader.Found.{Found}
 
 -- finished, bad key, value too long, no room, sum too big
 abbrev pub append_number : AppendRefusal → ℕ
@@ -74,17 +72,32 @@ scan_says why = scan_number why ∷ scan_values why
 
 -- A refused answer, named together with its number (and values): a wrong pair has no proof, and is refused here.
 
-abbrev pub refuse_append : (number : ℕ) (why : AppendRefusal) → append_number why ≡ number → Judged
-refuse_append number why e = judged.No why
+abbrev pub refuse_append : (number : ℕ) (why : AppendRefusal) → append_number why ≡ number → Result Writer AppendRefusal
+refuse_append number why e = Err why
 
-abbrev pub refuse_finish : (number : ℕ) (why : FinishRefusal) → finish_number why ≡ number → Writer → Closed
-refuse_finish number why e w = closed.Refused why w
+abbrev pub refuse_finish : (number : ℕ) (why : FinishRefusal) → finish_number why ≡ number → Writer → Result Closed (Refused FinishRefusal)
+refuse_finish number why e w = Err (record { why = why; writer = w })
 
-abbrev pub refuse_next : (number : ℕ) (why : NextRefusal) → next_number why ≡ number → Writer → Opened
-refuse_next number why e w = opened.Refused why w
+abbrev pub refuse_next : (number : ℕ) (why : NextRefusal) → next_number why ≡ number → Writer → Result Writer (Refused NextRefusal)
+refuse_next number why e w = Err (record { why = why; writer = w })
 
-abbrev pub refuse_frame : (says : List ℕ) (why : FrameRefusal) → frame_says why ≡ says → Scanner → Framed
-refuse_frame says why e w = framed.Refused why w
+abbrev pub refuse_frame : (says : List ℕ) (why : FrameRefusal) → frame_says why ≡ says → Scanner → Step Untested FrameRefusal
+refuse_frame says why e w = step.Refused why w
 
-abbrev pub refuse_scan : (says : List ℕ) (why : ScanRefusal) → scan_says why ≡ says → Scanner → Scanned
-refuse_scan says why e w = scanned.Refused why w
+abbrev pub refuse_scan : (says : List ℕ) (why : ScanRefusal) → scan_says why ≡ says → Scanner → Step ScanEntry ScanRefusal
+refuse_scan says why e w = step.Refused why w
+
+abbrev pub refuse_read : (says : List ℕ) (why : ScanRefusal) → scan_says why ≡ says → Result Found ScanRefusal
+refuse_read says why e = Err why
+
+-- A refusal as a case of a wider one, which says the same.
+
+abbrev pub widen : (wide : ScanRefusal) (says : List ℕ) → scan_says wide ≡ says → ScanRefusal
+widen wide says e = wide
+
+abbrev pub cut_refusal : CutShort → ScanRefusal
+cut_refusal cut = widen (scan.CutShort cut) (7 ∷ values_of_cut cut) refl
+
+abbrev pub widened : FrameRefusal → ScanRefusal
+widened (frame.CutShort cut) = widen (scan.CutShort cut) (frame_says (frame.CutShort cut)) refl
+widened (frame.InvalidHeader at) = widen (scan.InvalidHeader at) (frame_says (frame.InvalidHeader at)) refl

@@ -1,5 +1,5 @@
 -- A run: calls of one writer, made one after another in one buffer, folded from what the contracts say of each call; the form of frame is its argument.
-use Rattle.std.specs.Prelude.{ℕ, ◌<◌, ◌^◌, List, [], ◌∷◌, ◌++◌, length}
+use Rattle.std.specs.Prelude.{ℕ, ◌<◌, ◌^◌, List, [], ◌∷◌, ◌++◌, length, Option, Some, None, Result, Ok, Err}
 use Rattle.numbers.specs.declared.handle.BlobIndirection.{BlobIndirection}
 use Rattle.frames.specs.Layout.{Item}
 use Rattle.frames.specs.Shape.{item_of, plain_of, Form, blob_form}
@@ -7,9 +7,10 @@ use Rattle.frames.specs.Write.{targeted, append_answer, append_bytes, finish_ans
 use Rattle.frames.specs.declared.writer.Writer.{Writer}
 use Rattle.frames.specs.declared.writer.Report.{Report}
 use Rattle.frames.specs.declared.writer.Appended.{Appended}
-use Rattle.frames.specs.declared.writer.Appended.TheVariants as appended
 use Rattle.frames.specs.declared.writer.Closed.{Closed}
-use Rattle.frames.specs.declared.writer.Closed.TheVariants as closed
+use Rattle.frames.specs.declared.refused.Refused.{Refused}
+use Rattle.frames.specs.declared.refused.AppendRefusal.{AppendRefusal}
+use Rattle.frames.specs.declared.refused.FinishRefusal.{FinishRefusal}
 
 -- a call, with what the caller hands over
 pub data Call : Type 0 where
@@ -46,16 +47,19 @@ pub record Run : Type 0 where
   pub frames : List Frame
   pub reports : List Report
 
+abbrev pub reports_of : Option Report → List Report
+reports_of (Some report) = report ∷ []
+reports_of None = []
+
 -- an append's answer, taken apart
-unfoldable pub append_run : Item → List ℕ → Appended → Run
-append_run i s (appended.Put pointer w) = record { writer = w; buffer = s; frames = record { item = i; pointer = pointer } ∷ []; reports = [] }
-append_run i s (appended.Last pointer w report) = record { writer = w; buffer = s; frames = record { item = i; pointer = pointer } ∷ []; reports = report ∷ [] }
-append_run i s (appended.Refused why w) = record { writer = w; buffer = s; frames = []; reports = [] }
+unfoldable pub append_run : Item → List ℕ → Result Appended (Refused AppendRefusal) → Run
+append_run i s (Ok a) = record { writer = a.writer; buffer = s; frames = record { item = i; pointer = a.pointer } ∷ []; reports = reports_of a.report }
+append_run i s (Err back) = record { writer = back.writer; buffer = s; frames = []; reports = [] }
 
 -- a finish's answer, taken apart
-unfoldable pub finish_run : List ℕ → Closed → Run
-finish_run s (closed.Done w report) = record { writer = w; buffer = s; frames = []; reports = report ∷ [] }
-finish_run s (closed.Refused why w) = record { writer = w; buffer = s; frames = []; reports = [] }
+unfoldable pub finish_run : List ℕ → Result Closed (Refused FinishRefusal) → Run
+finish_run s (Ok done) = record { writer = done.writer; buffer = s; frames = []; reports = done.report ∷ [] }
+finish_run s (Err back) = record { writer = back.writer; buffer = s; frames = []; reports = [] }
 
 abbrev pub appending : Form → Item → Writer → List ℕ → Run
 appending form i w s = append_run i (append_bytes form w s i) (append_answer form w s i)

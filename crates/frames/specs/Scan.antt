@@ -1,29 +1,50 @@
 -- What one step of a scan answers: document 01, "The scan and the point read".
-use Rattle.std.specs.Prelude.{ℕ, ◌+◌, ◌-◌, refl, List, [], ◌∷◌, ◌++◌, true, false, length, take, drop, ltb, if◌then◌else◌}
+use Rattle.std.specs.Prelude.{ℕ, ◌+◌, ◌-◌, refl, List, [], ◌∷◌, ◌++◌, true, false, length, take, drop, ltb, if◌then◌else◌, Result, Ok, Err}
 use Rattle.hash.specs.declared.Hash128.{Hash128}
 use Rattle.hash.specs.XXH3.{xxh3_128}
 use Rattle.frames.specs.Layout.{blob, meta, header_length, Item, header_of, starts, same_sum}
 use Rattle.frames.specs.Shape.{item_of}
-use Rattle.frames.specs.Refusals.{frame_says, refuse_frame, refuse_scan}
+use Rattle.numbers.specs.Refusals.{values_of_cut}
+use Rattle.numbers.specs.declared.cut.CutShort.{CutShort}
+use Rattle.frames.specs.Cut.{cut_of}
+use Rattle.frames.specs.Refusals.{widened, refuse_frame, refuse_scan}
 use Rattle.frames.specs.declared.place.Place.{Place}
 use Rattle.frames.specs.declared.header.Header.{Header}
 use Rattle.frames.specs.declared.scanner.Scanner.{Scanner}
 use Rattle.frames.specs.declared.scanner.ScanEntry.{ScanEntry}
+use Rattle.frames.specs.declared.scanner.Untested.{Untested}
+use Rattle.frames.specs.declared.scanner.FrameRefusal.{FrameRefusal}
 use Rattle.frames.specs.declared.scanner.FrameRefusal.TheVariants as frame
+use Rattle.frames.specs.declared.scanner.ScanRefusal.{ScanRefusal}
 use Rattle.frames.specs.declared.scanner.ScanRefusal.TheVariants as scan
-use Rattle.frames.specs.declared.scanner.Framed.{Framed}
-use Rattle.frames.specs.declared.scanner.Framed.TheVariants as framed
-use Rattle.frames.specs.declared.scanner.Scanned.{Scanned}
-use Rattle.frames.specs.declared.scanner.Scanned.TheVariants as scanned
+use Rattle.frames.specs.declared.scanner.Step.{Step}
+use Rattle.frames.specs.declared.scanner.Step.TheVariants as step
+
+-- what a step finds that does not look at the sum
+abbrev pub Framed : Type 0
+Framed = Step Untested FrameRefusal
+
+-- what a whole step answers
+abbrev pub Scanned : Type 0
+Scanned = Step ScanEntry ScanRefusal
 
 -- a scanner that has not ended
 abbrev pub going : ℕ → Scanner
 going at = record { at = at; ended = false }
 
+-- an entry with the sum that its header stores, not tested
+abbrev pub framed : ScanEntry → Hash128 → Scanner → Framed
+framed e stored next = step.Entry (record { entry = e; stored = stored }) next
+
 -- cut short: where reading began, the bytes needed from there, the bytes present
 abbrev pub cut_at : ℕ → ℕ → ℕ → Scanner → Framed
 cut_at at needed present w =
-    refuse_frame (7 ∷ at ∷ needed ∷ present ∷ []) (frame.CutShort (record { at = at; needed = needed; present = present })) refl w
+    refuse_frame (7 ∷ at ∷ needed ∷ present ∷ []) (frame.CutShort (cut_of at needed present)) refl w
+
+-- a read that was cut short is refused, and the scanner handed back as it came
+abbrev pub cut_back : Scanner → Result Framed CutShort → Framed
+cut_back w (Ok framed) = framed
+cut_back w (Err cut) = refuse_frame (7 ∷ values_of_cut cut) (frame.CutShort cut) refl w
 
 -- a read of `needed` bytes at `at`: what follows it, or 7 where the file ends before
 unfoldable pub reading : List ℕ → ℕ → ℕ → Scanner → Framed → Framed
@@ -45,7 +66,7 @@ frame_with s w at h =
     reading s (at + 4) 34 w
     (reading s (at + header_length) h.key w
     (reading s (at + header_length + h.key) h.size w
-    (framed.Entry (entry_of at h) h.sum (going (at + header_length + h.key + h.size)))))
+    (framed (entry_of at h) h.sum (going (at + header_length + h.key + h.size)))))
 
 -- the same, with the header that stands at the scanner's place
 unfoldable pub frame_of : List ℕ → Scanner → Framed
@@ -54,9 +75,9 @@ frame_of s w = frame_with s w w.at (header_of (drop w.at s))
 -- a step up to the sum: an ended scanner ends again; under 4 bytes left is 7; META ends; other than BLOB is 8; then the frame
 unfoldable pub frame_at : List ℕ → Scanner → Framed
 frame_at s w =
-    if w.ended then framed.End w.at w else
+    if w.ended then step.End w.at w else
     reading s w.at 4 w (
-    if starts meta (drop w.at s) then framed.End w.at (record { at = w.at; ended = true }) else
+    if starts meta (drop w.at s) then step.End w.at (record { at = w.at; ended = true }) else
     if starts blob (drop w.at s) then frame_of s w else
     refuse_frame (8 ∷ w.at ∷ []) (frame.InvalidHeader w.at) refl (going (w.at + 4)))
 
@@ -74,12 +95,13 @@ sum_at s e = xxh3_128 (part_at s e.key ++ part_at s e.value)
 
 -- the test of the sum: a wrong one is 9
 unfoldable pub checked_of : List ℕ → Framed → Scanned
-checked_of s (framed.Entry e stored next) =
-    if same_sum stored (sum_at s e) then scanned.Entry e next else
-    refuse_scan (9 ∷ e.offset ∷ stored.low ∷ stored.high ∷ (sum_at s e).low ∷ (sum_at s e).high ∷ []) (scan.Mismatch e.offset stored (sum_at s e)) refl next
-checked_of s (framed.End at next) = scanned.End at next
-checked_of s (framed.Refused (frame.CutShort cut) next) = refuse_scan (frame_says (frame.CutShort cut)) (scan.CutShort cut) refl next
-checked_of s (framed.Refused (frame.InvalidHeader at) next) = refuse_scan (frame_says (frame.InvalidHeader at)) (scan.InvalidHeader at) refl next
+checked_of s (step.Entry found next) =
+    let e = found.entry in
+    let computed = sum_at s e in
+    if same_sum found.stored computed then step.Entry e next else
+    refuse_scan (9 ∷ e.offset ∷ found.stored.low ∷ found.stored.high ∷ computed.low ∷ computed.high ∷ []) (scan.Mismatch e.offset found.stored computed) refl next
+checked_of s (step.End at next) = step.End at next
+checked_of s (step.Refused why next) = step.Refused (widened why) next
 
 -- a whole step: a step up to the sum, then the test of the sum
 unfoldable pub step_of : List ℕ → Scanner → Scanned

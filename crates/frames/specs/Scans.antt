@@ -1,11 +1,10 @@
 -- A scan: steps made one after another over one file.
 use Rattle.std.specs.Prelude.{ℕ, zero, suc, ◌+◌, ◌-◌, ◌/◌, List, [], ◌∷◌, ◌++◌, Bool, true, false, leb, length, if◌then◌else◌}
-use Rattle.frames.specs.Scan.{going, step_of}
+use Rattle.frames.specs.Scan.{Scanned, going, step_of}
 use Rattle.frames.specs.declared.scanner.Scanner.{Scanner}
 use Rattle.frames.specs.declared.scanner.ScanEntry.{ScanEntry}
 use Rattle.frames.specs.declared.scanner.ScanRefusal.TheVariants as scan
-use Rattle.frames.specs.declared.scanner.Scanned.{Scanned}
-use Rattle.frames.specs.declared.scanner.Scanned.TheVariants as scanned
+use Rattle.frames.specs.declared.scanner.Step.TheVariants as step
 
 -- what a scan gives: entries in order, and the answer that ended it, which is none
 pub record Walk : Type 0 where
@@ -14,9 +13,9 @@ pub record Walk : Type 0 where
 
 -- a step's answer, and what follows an entry
 unfoldable pub go_on : Scanned → (Scanner → Walk) → Walk
-go_on (scanned.Entry e next) more = record { entries = e ∷ (more next).entries; last = (more next).last }
-go_on (scanned.End at next) more = record { entries = []; last = scanned.End at next }
-go_on (scanned.Refused why next) more = record { entries = []; last = scanned.Refused why next }
+go_on (step.Entry e next) more = record { entries = e ∷ (more next).entries; last = (more next).last }
+go_on (step.End at next) more = record { entries = []; last = step.End at next }
+go_on (step.Refused why next) more = record { entries = []; last = step.Refused why next }
 
 -- the scan from a scanner on, with a bound on its entries
 unfoldable pub walk_in : ℕ → List ℕ → Scanner → Walk
@@ -37,21 +36,21 @@ ahead es w = record { entries = es ++ w.entries; last = w.last }
 
 -- entries, and then the end at m
 abbrev pub ends_at : List ScanEntry → ℕ → Walk
-ends_at es m = record { entries = es; last = scanned.End m (record { at = m; ended = true }) }
+ends_at es m = record { entries = es; last = step.End m (record { at = m; ended = true }) }
 
 -- the scanner after a step
 unfoldable pub after : Scanned → Scanner
-after (scanned.Entry e next) = next
-after (scanned.End at next) = next
-after (scanned.Refused why next) = next
+after (step.Entry e next) = next
+after (step.End at next) = next
+after (step.Refused why next) = next
 
 -- whether a step's answer is an end or 7
 unfoldable pub is_over : Scanned → Bool
-is_over (scanned.Entry e next) = false
-is_over (scanned.End at next) = true
-is_over (scanned.Refused (scan.CutShort cut) next) = true
-is_over (scanned.Refused (scan.InvalidHeader at) next) = false
-is_over (scanned.Refused (scan.Mismatch at stored computed) next) = false
+is_over (step.Entry e next) = false
+is_over (step.End at next) = true
+is_over (step.Refused (scan.CutShort cut) next) = true
+is_over (step.Refused (scan.InvalidHeader at) next) = false
+is_over (step.Refused (scan.Mismatch at stored computed) next) = false
 
 -- whether one of the first n steps answers an end or 7, going on after every other refusal
 unfoldable pub over_within : ℕ → List ℕ → Scanner → Bool

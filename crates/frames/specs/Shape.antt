@@ -1,11 +1,16 @@
 -- What an append is given, what a frame form makes of it, and a frame's lengths: the writer counts by lengths alone, whatever the form.
 use Rattle.std.specs.Prelude.{ℕ, ◌+◌, List, length}
 use Rattle.frames.specs.Layout.{Item, frame_bytes, header_length}
+use Rattle.frames.specs.declared.blob.Blob.{Blob}
 use Rattle.frames.specs.declared.shape.Shape.{Shape}
 
 -- an item, as a caller hands it over
 abbrev pub item_of : List ℕ → ℕ → ℕ → List ℕ → Item
 item_of key seqno stated value = record { key = key; seqno = seqno; stated = stated; value = value }
+
+-- the item that a caller lends
+abbrev pub item_in : Blob → Item
+item_in b = item_of b.key.now b.seqno b.stated b.value.now
 
 -- a plain append states the value's own length
 abbrev pub plain_of : List ℕ → ℕ → List ℕ → Item

@@ -1,5 +1,5 @@
 -- What a step that gives an entry was: the tests the other way round, and from them that the entry is its frame's bytes, lies in the file, and is moved past.
-use Rattle.std.specs.Prelude.{ℕ, ◌+◌, ◌-◌, ◌≤◌, refl, Bool, length, drop, ltb, eqb}
+use Rattle.std.specs.Prelude.{ℕ, ◌+◌, ◌-◌, ◌≤◌, refl, Bool, ◌&&◌, length, drop, ltb, eqb}
 use Rattle.std.proofs.Math.Path.{◌≡◌, sym, ap}
 use Rattle.std.proofs.Common.{ap₂, ◌∙◌, arith, ltb-false, eqb-true, length-drop, drop-drop, length-take-le}
 use mathlib.Core.List.{List, [], ◌∷◌, ◌++◌}
@@ -11,16 +11,15 @@ use Rattle.numbers.specs.Pick.{pick}
 use Rattle.numbers.specs.Le.{le, num, Octets}
 use Rattle.numbers.specs.LeLaws.{le-num, octets_drop}
 use Rattle.frames.specs.Layout.{blob, meta, header_length, header_bytes, header_of, header_for, frame_bytes, starts, same_sum}
-use Rattle.frames.specs.Scan.{going, reading, entry_of, frame_of, frame_at, part_at, sum_at, item_at, checked_of, step_of}
+use Rattle.frames.specs.Scan.{Framed, framed, going, reading, entry_of, frame_of, frame_at, part_at, sum_at, item_at, checked_of, step_of}
 use Rattle.frames.specs.declared.header.Header.{Header}
 use Rattle.frames.specs.declared.scanner.Scanner.{Scanner}
 use Rattle.frames.specs.declared.scanner.ScanEntry.{ScanEntry}
+use Rattle.frames.specs.declared.scanner.Untested.{Untested}
 use Rattle.frames.specs.declared.scanner.FrameRefusal.{FrameRefusal}
 use Rattle.frames.specs.declared.scanner.FrameRefusal.TheVariants as frame
 use Rattle.frames.specs.declared.scanner.ScanRefusal.{ScanRefusal}
-use Rattle.frames.specs.declared.scanner.Framed.{Framed}
-use Rattle.frames.specs.declared.scanner.Framed.TheVariants as framed
-use Rattle.frames.specs.declared.scanner.Scanned.TheVariants as scanned
+use Rattle.frames.specs.declared.scanner.Step.TheVariants as step
 
 -- a step from w that gave the entry e and left n, of a frame whose header is h
 pub record Whole (s : List ℕ) (w : Scanner) (h : Header) (e : ScanEntry) (n : Scanner) : Type 0 where
@@ -34,19 +33,19 @@ pub record Whole (s : List ℕ) (w : Scanner) (h : Header) (e : ScanEntry) (n : 
 
 module _ (e : ScanEntry) (sum : Hash128) (next : Scanner) where
   abbrev Is : Framed → Type 0
-  Is x = x ≡ framed.Entry e sum next
+  Is x = x ≡ framed e sum next
 
-  at-end : (b : Bool) (at : ℕ) (n : Scanner) (x : Framed) → Is (pick b (framed.End at n) x) → (b ≡ false) × Is x
+  at-end : (b : Bool) (at : ℕ) (n : Scanner) (x : Framed) → Is (pick b (step.End at n) x) → (b ≡ false) × Is x
   unfolding pick
   at-end true at n x h = absurd (let z : ◌≡◌ {A = ℕ} 0 1 = cc in omega arith)
   at-end false at n x h = (refl, h)
 
-  at-refusal : (b : Bool) (why : FrameRefusal) (n : Scanner) (x : Framed) → Is (pick b (framed.Refused why n) x) → (b ≡ false) × Is x
+  at-refusal : (b : Bool) (why : FrameRefusal) (n : Scanner) (x : Framed) → Is (pick b (step.Refused why n) x) → (b ≡ false) × Is x
   unfolding pick
   at-refusal true why n x h = absurd (let z : ◌≡◌ {A = ℕ} 0 1 = cc in omega arith)
   at-refusal false why n x h = (refl, h)
 
-  at_mark : (b : Bool) (why : FrameRefusal) (n : Scanner) (x : Framed) → Is (pick b x (framed.Refused why n)) → (b ≡ true) × Is x
+  at_mark : (b : Bool) (why : FrameRefusal) (n : Scanner) (x : Framed) → Is (pick b x (step.Refused why n)) → (b ≡ true) × Is x
   unfolding pick
   at_mark true why n x h = (refl, h)
   at_mark false why n x h = absurd (let z : ◌≡◌ {A = ℕ} 0 1 = cc in omega arith)
@@ -58,27 +57,29 @@ module _ (e : ScanEntry) (sum : Hash128) (next : Scanner) where
       (ltb-false _ _ p.0, p.1)
 
 -- a scanned entry is a framed one whose sum is right
-right : (b : Bool) (f e : ScanEntry) (next' next : Scanner) (why : ScanRefusal) → pick b (scanned.Entry f next') (scanned.Refused why next') ≡ scanned.Entry e next
+right : (b : Bool) (f e : ScanEntry) (next' next : Scanner) (why : ScanRefusal) → pick b (step.Entry f next') (step.Refused why next') ≡ step.Entry e next
     → (b ≡ true) × (f ≡ e) × (next' ≡ next)
 unfolding pick
 right true f e next' next why h = (refl, cc, cc)
 right false f e next' next why h = absurd (let z : ◌≡◌ {A = ℕ} 0 1 = cc in omega arith)
 
-checked : (s : List ℕ) (e : ScanEntry) (next : Scanner) (f : Framed) → checked_of s f ≡ scanned.Entry e next
-    → (sum : Hash128) × (f ≡ framed.Entry e sum next) × (same_sum sum (sum_at s e) ≡ true)
+checked : (s : List ℕ) (e : ScanEntry) (next : Scanner) (f : Framed) → checked_of s f ≡ step.Entry e next
+    → (sum : Hash128) × (f ≡ framed e sum next) × (same_sum sum (sum_at s e) ≡ true)
 unfolding checked_of pick
-checked s e next (framed.Entry f sum next') h =
-    let p = right _ f e next' next _ h in
-    (sum, rw (p.1, p.2), rw (← p.1) p.0)
-checked s e next (framed.End at next') h = absurd (let z : ◌≡◌ {A = ℕ} 0 1 = cc in omega arith)
-checked s e next (framed.Refused (frame.CutShort cut) next') h = absurd (let z : ◌≡◌ {A = ℕ} 0 1 = cc in omega arith)
-checked s e next (framed.Refused (frame.InvalidHeader at) next') h = absurd (let z : ◌≡◌ {A = ℕ} 0 1 = cc in omega arith)
+checked s e next (step.Entry u next') h =
+    let p = right _ u.entry e next' next _ h in
+    (u.stored, λ i. step.Entry (record { entry = p.1 i; stored = u.stored }) (p.2 i), rw (← p.1) p.0)
+checked s e next (step.End at next') h = absurd (let z : ◌≡◌ {A = ℕ} 0 1 = cc in omega arith)
+checked s e next (step.Refused (frame.CutShort cut) next') h = absurd (let z : ◌≡◌ {A = ℕ} 0 1 = cc in omega arith)
+checked s e next (step.Refused (frame.InvalidHeader at) next') h = absurd (let z : ◌≡◌ {A = ℕ} 0 1 = cc in omega arith)
 
 -- two framed entries that are one
-entries : (a b : ScanEntry) (x y : Hash128) (n m : Scanner) → framed.Entry a x n ≡ framed.Entry b y m → (a ≡ b) × (x ≡ y) × (n ≡ m)
-entries a b x y n m h = (cc, cc, cc)
+entries : (a b : ScanEntry) (x y : Hash128) (n m : Scanner) → framed a x n ≡ framed b y m → (a ≡ b) × (x ≡ y) × (n ≡ m)
+entries a b x y n m h =
+    let u : ◌≡◌ {A = Untested} (record { entry = a; stored = x }) (record { entry = b; stored = y }) = cc in
+    (ap (λ (v : Untested). v.entry) u, ap (λ (v : Untested). v.stored) u, cc)
 
-pub whole : (s : List ℕ) (w : Scanner) (e : ScanEntry) (next : Scanner) → step_of s w ≡ scanned.Entry e next → Whole s w (header_of (drop w.at s)) e next
+pub whole : (s : List ℕ) (w : Scanner) (e : ScanEntry) (next : Scanner) → step_of s w ≡ step.Entry e next → Whole s w (header_of (drop w.at s)) e next
 unfolding step_of frame_at frame_of checked
 whole s w e next q =
     let h = header_of (drop w.at s) in
@@ -116,7 +117,7 @@ pub record Stepped (s : List ℕ) (at : ℕ) (e : ScanEntry) (n : Scanner) : Typ
   pub key : e.key.at ≤ length s
   pub value : e.value.at ≤ length s
 
-pub stepped : (e : ScanEntry) (n : Scanner) (s : List ℕ) (at : ℕ) → step_of s (going at) ≡ scanned.Entry e n → Stepped s at e n
+pub stepped : (e : ScanEntry) (n : Scanner) (s : List ℕ) (at : ℕ) → step_of s (going at) ≡ step.Entry e n → Stepped s at e n
 stepped e n s at q =
     let p = whole s (going at) e n q in
     let h = header_of (drop at s) in
@@ -152,10 +153,9 @@ mark-is (m ∷ mark) [] h = absurd (let z : ◌≡◌ {A = ℕ} 0 1 = cc in omeg
 mark-is (m ∷ mark) (b ∷ p) h = one_byte b m (take (length mark) p) mark (starts mark p) (eqb b m) refl h (mark-is mark p)
 
 sum_is : (a b : Hash128) → same_sum a b ≡ true → a ≡ b
-unfolding same_sum pick
 sum_is a b h = by (eqb a.low b.low) refl h
   where
-    by : (t : Bool) → eqb a.low b.low ≡ t → pick t (eqb a.high b.high) false ≡ true → a ≡ b
+    by : (t : Bool) → eqb a.low b.low ≡ t → (t && eqb a.high b.high) ≡ true → a ≡ b
     by true e g = λ i. record { low = eqb-true a.low b.low e i; high = eqb-true a.high b.high g i }
     by false e g = absurd (let z : ◌≡◌ {A = ℕ} 0 1 = cc in omega arith)
 
@@ -183,7 +183,7 @@ module _ (p : List ℕ) (long : header_length ≤ length p) (f : Octets p) (mark
         field 8 4 (omega arith),
       )
 
-module _ (s : List ℕ) (f : Octets s) (w : Scanner) (e : ScanEntry) (n : Scanner) (q : step_of s w ≡ scanned.Entry e n) where
+module _ (s : List ℕ) (f : Octets s) (w : Scanner) (e : ScanEntry) (n : Scanner) (q : step_of s w ≡ step.Entry e n) where
   abbrev at : ℕ
   at = w.at
 

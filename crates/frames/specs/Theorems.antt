@@ -17,7 +17,7 @@ use Rattle.frames.specs.declared.writer.Report.{Report}
 use Rattle.frames.specs.declared.scanner.Scanner.{Scanner}
 use Rattle.frames.specs.declared.scanner.ScanEntry.{ScanEntry}
 use Rattle.frames.specs.declared.scanner.ScanRefusal.TheVariants as scan
-use Rattle.frames.specs.declared.scanner.Scanned.TheVariants as scanned
+use Rattle.frames.specs.declared.scanner.Step.TheVariants as step
 
 -- of any list of calls, from any unfinished writer whose offset is 0, in any buffer
 abbrev pub OfRuns : (Writer → Run → List ℕ → Type 0) → Type 0
@@ -92,14 +92,14 @@ WalkOn = (s : List ℕ) (w : Scanner) → walk_from s w ≡ go_on (step_of s w) 
 -- the other direction of a step: of a file of bytes, the entry that a step gave is the bytes of its frame, up to where the next step begins
 abbrev pub EntryIsFrame : Type 0
 EntryIsFrame =
-    (s : List ℕ) (w next : Scanner) (e : ScanEntry) → Octets s → step_of s w ≡ scanned.Entry e next
+    (s : List ℕ) (w next : Scanner) (e : ScanEntry) → Octets s → step_of s w ≡ step.Entry e next
     → take (next.at - w.at) (drop w.at s) ≡ frame_bytes (item_at s e)
 
 -- cut anywhere before META's last byte, a file that scans to its end scans to exactly the entries whole before the cut, and then 7
 abbrev pub Cut : Type 0
 Cut =
     (s : List ℕ) (es : List ScanEntry) (m cut : ℕ) → walk_of s ≡ ends_at es m → cut < m + 4
-    → (at : ℕ) × (why : CutShort) × (walk_of (take cut s) ≡ record { entries = whole_before cut es m; last = scanned.Refused (scan.CutShort why) (going at) })
+    → (at : ℕ) × (why : CutShort) × (walk_of (take cut s) ≡ record { entries = whole_before cut es m; last = step.Refused (scan.CutShort why) (going at) })
 
 pub record Theorems : Type 0 where
   pub bytes : Bytes

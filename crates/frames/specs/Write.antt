@@ -1,5 +1,5 @@
 -- What the writer answers and writes: document 01, "The frame", and its order of refusals.
-use Rattle.std.specs.Prelude.{ℕ, ◌+◌, ◌<◌, ◌≤◌, ◌^◌, refl, List, [], ◌++◌, Bool, true, false, not, length, ltb, leb, eqb, if◌then◌else◌}
+use Rattle.std.specs.Prelude.{ℕ, ◌+◌, refl, List, [], ◌++◌, Bool, true, false, not, length, ltb, leb, eqb, if◌then◌else◌, Option, Some, None, Result, Ok, Err}
 use Rattle.std.proofs.lemmas.List.Edits.{sets}
 use Rattle.numbers.specs.declared.handle.BlobIndirection.{BlobIndirection}
 use Rattle.frames.specs.Layout.{meta, Item}
@@ -9,17 +9,15 @@ use Rattle.frames.specs.declared.place.Place.{Place}
 use Rattle.frames.specs.declared.shape.Shape.{Shape}
 use Rattle.frames.specs.declared.writer.Writer.{Writer}
 use Rattle.frames.specs.declared.writer.Report.{Report}
-use Rattle.frames.specs.declared.writer.AppendRefusal.TheVariants as append
-use Rattle.frames.specs.declared.writer.FinishRefusal.TheVariants as finish
-use Rattle.frames.specs.declared.writer.NextRefusal.TheVariants as next
-use Rattle.frames.specs.declared.writer.Judged.{Judged}
-use Rattle.frames.specs.declared.writer.Judged.TheVariants.{Go, No}
 use Rattle.frames.specs.declared.writer.Appended.{Appended}
-use Rattle.frames.specs.declared.writer.Appended.TheVariants as appended
 use Rattle.frames.specs.declared.writer.Closed.{Closed}
-use Rattle.frames.specs.declared.writer.Closed.TheVariants as closed
-use Rattle.frames.specs.declared.writer.Opened.{Opened}
-use Rattle.frames.specs.declared.writer.Opened.TheVariants as opened
+use Rattle.frames.specs.declared.refused.Refused.{Refused}
+use Rattle.frames.specs.declared.refused.AppendRefusal.{AppendRefusal}
+use Rattle.frames.specs.declared.refused.AppendRefusal.TheVariants as append
+use Rattle.frames.specs.declared.refused.FinishRefusal.{FinishRefusal}
+use Rattle.frames.specs.declared.refused.FinishRefusal.TheVariants as finish
+use Rattle.frames.specs.declared.refused.NextRefusal.{NextRefusal}
+use Rattle.frames.specs.declared.refused.NextRefusal.TheVariants as next
 
 -- the largest u64
 abbrev pub most : ℕ
@@ -52,16 +50,9 @@ over_of w f =
     if ltb most (w.disk + f.value) then true else
     ltb most (w.stated + f.stated)
 
--- whether a frame of that shape is taken, in the order 4, 1, 2, 3, 12; n is the buffer's length. Nothing wraps: these are whole numbers
-unfoldable pub judged : Writer → ℕ → Shape → Judged
-judged w n f =
-    if w.finished then refuse_append 4 append.Finished refl else
-    if eqb f.key 0 then refuse_append 1 append.BadKey refl else
-    if ltb 65535 f.key then refuse_append 1 append.BadKey refl else
-    if ltb 4294967295 f.value then refuse_append 2 append.ValueTooLong refl else
-    if ltb n (w.offset + size_of f + 4) then refuse_append 3 append.NoRoom refl else
-    if over_of w f then refuse_append 12 append.SumTooBig refl else
-    Go
+-- the writer with one more frame in its totals
+abbrev pub counted : Writer → Shape → Writer
+counted w f = record { id = w.id; offset = w.offset; items = w.items + 1; disk = w.disk + f.value; stated = w.stated + f.stated; target = w.target; finished = w.finished; first = w.first; last = w.last }
 
 -- where the key of the next frame lies
 abbrev pub key_place : Writer → Shape → Place
@@ -85,13 +76,32 @@ grown w f = record {
   last = key_place w f;
 }
 
+-- a frame of that shape: the state after it, or why it is refused, in the order 4, 1, 2, 3, 12; n is the buffer's length. Nothing wraps: these are whole numbers
+unfoldable pub judged : Writer → ℕ → Shape → Result Writer AppendRefusal
+judged w n f =
+    if w.finished then refuse_append 4 append.Finished refl else
+    if eqb f.key 0 then refuse_append 1 append.BadKey refl else
+    if ltb 65535 f.key then refuse_append 1 append.BadKey refl else
+    if ltb 4294967295 f.value then refuse_append 2 append.ValueTooLong refl else
+    if ltb n (w.offset + size_of f + 4) then refuse_append 3 append.NoRoom refl else
+    if over_of w f then refuse_append 12 append.SumTooBig refl else
+    Ok (grown w f)
+
 -- the handle (file id, offset before the frame, value length) and the stated length
 abbrev pub pointer_of : Writer → Shape → BlobIndirection
 pointer_of w f = record { handle = record { offset = w.offset; file = w.id; size = f.value }; stated = f.stated }
 
+-- the report of a file that is finished
+abbrev pub reported : Writer → Option Report
+reported w = if w.finished then Some (report_of w) else None
+
 -- the answer of an append that is taken, with the report where it finished the file
 unfoldable pub accepted_as : BlobIndirection → Writer → Appended
-accepted_as pointer w = if w.finished then appended.Last pointer w (report_of w) else appended.Put pointer w
+accepted_as pointer w = record { pointer = pointer; writer = w; report = reported w }
+
+-- a refusal, with the writer as it came
+abbrev pub handed_back : {E : Type 0} → Writer → E → Refused E
+handed_back w why = record { why = why; writer = w }
 
 -- the end mark, where the file is finished
 unfoldable pub end_bytes : Bool → List ℕ
@@ -99,60 +109,51 @@ end_bytes true = meta
 end_bytes false = []
 
 -- the answer by that verdict: a refused append hands the same state back
-abbrev pub answer_of : Judged → Writer → Shape → Appended
-answer_of Go w f = accepted_as (pointer_of w f) (grown w f)
-answer_of (No why) w f = appended.Refused why w
+abbrev pub answer_of : Result Writer AppendRefusal → Writer → Shape → Result Appended (Refused AppendRefusal)
+answer_of (Ok after) w f = Ok (accepted_as (pointer_of w f) after)
+answer_of (Err why) w f = Err (handed_back w why)
 
 -- what an append answers by lengths alone: those of the frame, and n, the buffer's
-unfoldable pub answered : Writer → ℕ → Shape → Appended
+unfoldable pub answered : Writer → ℕ → Shape → Result Appended (Refused AppendRefusal)
 answered w n f = answer_of (judged w n f) w f
 
--- the bytes by that verdict: the frame at the offset, then META where it finished the file; a refused append changes none
-abbrev pub bytes_of : Judged → Writer → List ℕ → Shape → List ℕ → List ℕ
-bytes_of Go w s f bytes = sets s w.offset (bytes ++ end_bytes (grown w f).finished)
-bytes_of (No why) w s f bytes = s
+-- the buffer by that answer: the frame's bytes at the offset, then META where it finished the file; a refused append changes none
+abbrev pub bytes_of : Result Appended (Refused AppendRefusal) → Writer → List ℕ → List ℕ → List ℕ
+bytes_of (Ok a) w s bytes = sets s w.offset (bytes ++ end_bytes a.writer.finished)
+bytes_of (Err back) w s bytes = s
 
 -- an append of an item, as a frame of that form: what it answers
-abbrev pub append_answer : Form → Writer → List ℕ → Item → Appended
+abbrev pub append_answer : Form → Writer → List ℕ → Item → Result Appended (Refused AppendRefusal)
 append_answer form w s i = answered w (length s) (shape_of form i)
 
 -- and the buffer after it
 unfoldable pub append_bytes : Form → Writer → List ℕ → Item → List ℕ
-append_bytes form w s i = bytes_of (judged w (length s) (shape_of form i)) w s (shape_of form i) (form.bytes i)
+append_bytes form w s i = bytes_of (append_answer form w s i) w s (form.bytes i)
 
 -- the writer, finished
 abbrev pub closed_as : Writer → Writer
 closed_as w = record { id = w.id; offset = w.offset; items = w.items; disk = w.disk; stated = w.stated; target = w.target; finished = true; first = w.first; last = w.last }
 
 -- what a finish answers, in the order 4, 5, 3; n is the buffer's length
-unfoldable pub finish_answer : Writer → ℕ → Closed
+unfoldable pub finish_answer : Writer → ℕ → Result Closed (Refused FinishRefusal)
 finish_answer w n =
     if w.finished then refuse_finish 4 finish.Finished refl w else
     if eqb w.items 0 then refuse_finish 5 finish.NothingWritten refl w else
     if ltb n (w.offset + 4) then refuse_finish 3 finish.NoRoom refl w else
-    closed.Done (closed_as w) (report_of (closed_as w))
+    Ok (record { writer = closed_as w; report = report_of (closed_as w) })
 
 -- the buffer by that answer
-abbrev pub closed_bytes : Closed → Writer → List ℕ → List ℕ
-closed_bytes (closed.Done w' report) w s = sets s w.offset meta
-closed_bytes (closed.Refused why w') w s = s
+abbrev pub closed_bytes : Result Closed (Refused FinishRefusal) → Writer → List ℕ → List ℕ
+closed_bytes (Ok done) w s = sets s w.offset meta
+closed_bytes (Err back) w s = s
 
 -- the end mark at the offset, or the same bytes
 unfoldable pub finish_bytes : Writer → List ℕ → List ℕ
 finish_bytes w s = closed_bytes (finish_answer w (length s)) w s
 
 -- the next file, in the order 15, 6: the id plus one, offset 0, zero counts, settings kept
-unfoldable pub next_of : Writer → Opened
+unfoldable pub next_of : Writer → Result Writer (Refused NextRefusal)
 next_of w =
     if not w.finished then refuse_next 15 next.NotFinished refl w else
     if leb most w.id then refuse_next 6 next.IdsUsedUp refl w else
-    opened.Next (start_of (w.id + 1) w.target)
-
--- As the code takes it apart: what growing asks of an append that was judged, so that no sum passes its width.
-pub record Fits (w : Writer) (f : Shape) : Type 0 where
-  pub key : f.key ≤ 65535
-  pub value : f.value < 2 ^ 32
-  pub offset : w.offset + size_of f < 2 ^ 64
-  pub items : w.items + 1 < 2 ^ 64
-  pub disk : w.disk + f.value < 2 ^ 64
-  pub total : w.stated + f.stated < 2 ^ 64
+    Ok (start_of (w.id + 1) w.target)

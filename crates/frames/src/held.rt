@@ -5,7 +5,7 @@ ghost use Rattle.frames.specs.Held.{holding};
 
 use super::scanner::{Scanned, Scanner};
 
-// The file, and where in it the scan stands.
+// The file, and where in it the scan stands: document 01's form, a slice and a position.
 #[derive(Clone, Copy)]
 pub struct FileScanner<'a> {
     pub file: &'a [u8],
@@ -19,10 +19,7 @@ impl<'a> FileScanner<'a> {
     {
         FileScanner {
             file,
-            scanner: Scanner {
-                at: 0,
-                ended: false,
-            },
+            scanner: Scanner::new(),
         }
     }
 
@@ -37,10 +34,7 @@ impl<'a> FileScanner<'a> {
     pub fn moved(self, scanner: Scanner) -> FileScanner<'a>
         ensures { result ≡ holding self.entry.file scanner }
     {
-        FileScanner {
-            file: self.file,
-            scanner,
-        }
+        FileScanner { scanner, ..self }
     }
 
     // The place of the byte that it reads next.

@@ -1,17 +1,20 @@
 // The point read: a value's part of the file, found by a handle.
-ghost use Rattle.std.specs.Prelude.{◌≡◌, ◌+◌, ◌<◌, ◌≤◌, ◌^◌, length};
+ghost use Rattle.std.specs.Prelude.{◌≡◌, ◌+◌, ◌≤◌, length};
 ghost use Rattle.frames.specs.Layout.{header_length};
-ghost use Rattle.frames.specs.Point.{told, cut_told, summed, taken_sum, within_of, read_of, shown, value_in};
+ghost use Rattle.frames.specs.Point.{told_by, taken_sum, found_of, read_of, shown, value_in};
 
-use super::header::{BLOB, BLOB_HEADER_LEN, marked, read_header, same_sum};
+use super::cut::{enough, has};
+use super::header::{BLOB, BLOB_HEADER_LEN, marked, read_header};
 use super::place::Place;
+use super::scanner::ScanRefusal;
 use hash::{Hash128, xxh3_128, xxh3_128_joined};
-use numbers::bytes::{part, room, tail};
+use numbers::bytes::{part, tail};
 use numbers::cut::CutShort;
 use numbers::handle::ValueHandle;
 
 // What a read found: the refusal's number, or 0; where the value lies; both sums, of a frame that was hashed; and, for 7, what was cut short.
-#[derive(Clone, Copy)]
+// Document 01's form: a struct of numbers, told beside the part.
+#[derive(Clone, Copy, PartialEq, Eq)]
 pub struct Told {
     pub number: u64,
     pub value: Place,
@@ -20,59 +23,59 @@ pub struct Told {
     pub cut: CutShort,
 }
 
-// Where nothing was cut short.
+// A value: where it lies, and its frame's sum.
+#[derive(Clone, Copy)]
+struct Found {
+    value: Place,
+    sum: Hash128,
+}
+
+// What was not found, not hashed and not cut short.
+const NO_PLACE: Place = Place { at: 0, len: 0 };
+
+const NO_SUM: Hash128 = Hash128 { low: 0, high: 0 };
+
 const NO_CUT: CutShort = CutShort {
     at: 0,
     needed: 0,
     present: 0,
 };
 
-fn refusal(number: u64, cut: CutShort) -> Told
-    ensures { result ≡ told number cut }
-{
-    let none = Hash128 { low: 0, high: 0 };
-    Told {
-        number,
-        value: Place { at: 0, len: 0 },
-        stored: none,
-        computed: none,
-        cut,
-    }
-}
-
-fn cut_short(at: usize, needed: usize, present: usize) -> Told
-    ensures { result ≡ cut_told at needed present }
-{
-    refusal(
-        7,
-        CutShort {
-            at,
-            needed,
-            present,
-        },
-    )
-}
-
-// The two answers of a frame that was hashed.
-fn judged(value: Place, stored: Hash128, computed: Hash128) -> Told
-    ensures { result ≡ summed value stored computed }
-{
-    let cut = NO_CUT;
-    if same_sum(stored, computed) {
-        return Told {
-            number: 0,
-            value,
-            stored,
-            computed,
-            cut,
-        };
-    }
-    Told {
-        number: 9,
-        value: Place { at: 0, len: 0 },
-        stored,
-        computed,
-        cut,
+impl Told {
+    fn of(read: Result<Found, ScanRefusal>) -> Told
+        ensures { result ≡ told_by read }
+    {
+        match read {
+            Ok(found) => Told {
+                number: 0,
+                value: found.value,
+                stored: found.sum,
+                computed: found.sum,
+                cut: NO_CUT,
+            },
+            Err(why) => {
+                let refused = Told {
+                    number: why.number(),
+                    value: NO_PLACE,
+                    stored: NO_SUM,
+                    computed: NO_SUM,
+                    cut: NO_CUT,
+                };
+                match why {
+                    ScanRefusal::CutShort(cut) => Told { cut, ..refused },
+                    ScanRefusal::InvalidHeader { at: _ } => refused,
+                    ScanRefusal::Mismatch {
+                        at: _,
+                        stored,
+                        computed,
+                    } => Told {
+                        stored,
+                        computed,
+                        ..refused
+                    },
+                }
+            }
+        }
     }
 }
 
@@ -84,47 +87,46 @@ fn taken_sum(t: &[u8], hk: usize, k: usize) -> Hash128
     if hk == k {
         return xxh3_128(tail(t, BLOB_HEADER_LEN));
     }
-    let key = part(t, BLOB_HEADER_LEN, hk);
-    let value = tail(t, BLOB_HEADER_LEN + k);
-    xxh3_128_joined(key, value)
+    xxh3_128_joined(part(t, BLOB_HEADER_LEN, hk), tail(t, BLOB_HEADER_LEN + k))
 }
 
-// t is what was taken of the file at `at`; k is the given key's length and size the on-disk length.
-fn within(t: &[u8], at: usize, k: usize, size: usize) -> Told
-    requires { (length t.now ≡ header_length + k + size) × (at + length t.now < 2 ^ 64) }
-    ensures { result ≡ within_of t.now at k size }
+// A handle's value. Of the key its length counts, and the header's key is hashed.
+fn find(file: &[u8], key: &[u8], handle: ValueHandle) -> Result<Found, ScanRefusal>
+    ensures { result ≡ found_of file.now (length key.now) handle }
 {
-    if marked(t, BLOB) {
-        let h = read_header(t);
-        let hk = h.key as usize;
-        if k + size < hk {
-            return cut_short(at + BLOB_HEADER_LEN, hk, k + size);
-        }
-        let computed = taken_sum(t, hk, k);
-        let stored = h.sum;
-        let value = Place {
-            at: at + BLOB_HEADER_LEN + k,
-            len: size,
-        };
-        return judged(value, stored, computed);
+    let k = key.len();
+    let at = handle.offset as usize;
+    let size = handle.size as usize;
+    let needed = BLOB_HEADER_LEN + k + size;
+    has(file, at, needed)?;
+    let taken = part(file, at, needed);
+    if !marked(taken, BLOB) {
+        return Err(ScanRefusal::InvalidHeader { at });
     }
-    refusal(8, NO_CUT)
+    let header = read_header(taken);
+    let hk = header.key as usize;
+    enough(at + BLOB_HEADER_LEN, hk, k + size)?;
+    let stored = header.sum;
+    let computed = taken_sum(taken, hk, k);
+    if stored != computed {
+        return Err(ScanRefusal::Mismatch {
+            at,
+            stored,
+            computed,
+        });
+    }
+    let value = Place {
+        at: at + BLOB_HEADER_LEN + k,
+        len: size,
+    };
+    Ok(Found { value, sum: stored })
 }
 
 // What reading a handle's value finds. The handle's file id is not looked at: which file it names is the caller's to know.
 pub fn look(file: &[u8], key: &[u8], handle: ValueHandle) -> Told
     ensures { result ≡ read_of file.now key.now handle }
 {
-    let at = handle.offset as usize;
-    let k = key.len();
-    let size = handle.size as usize;
-    let n = BLOB_HEADER_LEN + k + size;
-    let left = room(file.len(), at);
-    if left < n {
-        return cut_short(at, n, left);
-    }
-    let t = part(file, at, n);
-    within(t, at, k, size)
+    Told::of(find(file, key, handle))
 }
 
 // The value that a look told of, as a part of the file; empty where it was refused.
@@ -142,10 +144,9 @@ pub fn read<'a, 'b, 'c>(
     handle: ValueHandle,
     told: &'c mut Told,
 ) -> &'a [u8]
-    ensures { (shown result ≡ value_in file.entry (read_of file.now key.now handle))
-        × (told.new ≡ read_of file.now key.now handle) }
+    ensures value { shown result ≡ value_in file.entry (read_of file.now key.now handle) }
+    ensures told { told.new ≡ read_of file.now key.now handle }
 {
-    let t = look(file, key, handle);
-    *told = t;
-    value(file, t)
+    *told = look(file, key, handle);
+    value(file, *told)
 }

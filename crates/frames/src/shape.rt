@@ -15,7 +15,8 @@ pub struct Shape {
 
 impl Shape {
     pub(crate) fn size(self) -> usize
-        requires { (self.key ≤ 65535) × (self.value < 2 ^ 32) }
+        requires key { self.key ≤ 65535 }
+        requires value { self.value < 2 ^ 32 }
         ensures { result ≡ size_of self }
     {
         self.front as usize + self.key + self.value + self.back as usize

@@ -1,15 +1,17 @@
 -- Which totals fit their widths: of one entry, of a list, of a list with an entry put in or grown.
-use Prim.Native.Nat.{ℕ, zero, suc, ◌+◌, ◌-◌, ◌≤◌, ◌<◌, ◌^◌}
-use mathlib.Core.Path.{◌≡◌, refl, ◌∙◌, ap, ap₂}
+use Prim.Native.Nat.{ℕ, zero, suc, ◌+◌, ◌≤◌, ◌<◌, ◌^◌}
+use mathlib.Core.Path.{◌≡◌, refl, sym, ◌∙◌, ap, ap₂}
 use mathlib.Core.List.{List, [], ◌∷◌}
 use mathlib.Core.Bool.{Bool, true, false, ◌&&◌}
 use native.Mathlib.Omega.{arith}
 use lib.ListN.{length, set}
 use lib.Dec.{ltb, leb}
-use borrow.Author.Tests.{ltb-true, lt-ltb, le-ltb, le-leb, lt-leb, leb-true}
+use borrow.Author.Tests.{ltb-true, lt-ltb, le-leb, lt-leb, leb-true}
 use Rattle.numbers.specs.Pick.{pick}
-use Rattle.garbage.specs.Entries.{Entry, plus, fits, all_fit, made, sumTooBig, mapFull, judged}
-use Rattle.garbage.proofs.Bools.{and_l, and_r, both, and_true}
+use Rattle.std.specs.Prelude.{Ok, Err, Option, Some, None}
+use Rattle.garbage.specs.declared.map.CountRefusal.TheVariants.{MapFull, SumTooBig}
+use Rattle.garbage.specs.Entries.{Entry, plus, fits, all_fit, judged}
+use Rattle.garbage.proofs.Bools.{and_l, and_r, both, and_true, by_test}
 use Rattle.garbage.proofs.Insert.{put}
 
 pub fits_all : (e : Entry) → e.frames < 2 ^ 32 → e.stated < 2 ^ 64 → e.disk < 2 ^ 64 → fits e ≡ true
@@ -55,46 +57,54 @@ fit_put l zero x h f = fit_cons x l h f
 fit_put [] (suc i) x h f = fit_cons x [] h f
 fit_put (y ∷ l) (suc i) x h f = fit_cons y (put l i x) (fit-head y l f) (fit_put l i x h (fit-tail y l f))
 
--- ---- the three widths, tested by what is left
-module _ (x e : Entry) (ef : e.frames < 2 ^ 32) (es : e.stated < 2 ^ 64) (ed : e.disk < 2 ^ 64) where
-  pub no_frames : 4294967295 - e.frames < x.frames → fits (plus x e) ≡ false
-  unfolding fits
-  no_frames h = rw (le-ltb (x.frames + e.frames) (2 ^ 32) (omega arith))
+-- ---- one total that passes its width
+module _ (x e : Entry) where
+  pub no_frames : (x.frames + e.frames < 2 ^ 32 → ⊥) → fits (plus x e) ≡ false
+  no_frames h = by_test (fits (plus x e)) (λ t. absurd (h (fits_each (plus x e) t).0)) (λ t. t)
 
-  module _ (h : x.frames ≤ 4294967295 - e.frames) where
-    pub no_stated : 18446744073709551615 - e.stated < x.stated → fits (plus x e) ≡ false
-    unfolding fits
-    no_stated k = rw (lt-ltb (x.frames + e.frames) (2 ^ 32) (omega arith), le-ltb (x.stated + e.stated) (2 ^ 64) (omega arith))
+  pub no_stated : (x.stated + e.stated < 2 ^ 64 → ⊥) → fits (plus x e) ≡ false
+  no_stated h = by_test (fits (plus x e)) (λ t. absurd (h (fits_each (plus x e) t).1)) (λ t. t)
 
-    module _ (k : x.stated ≤ 18446744073709551615 - e.stated) where
-      pub no_disk : 18446744073709551615 - e.disk < x.disk → fits (plus x e) ≡ false
-      unfolding fits
-      no_disk l = rw (lt-ltb (x.frames + e.frames) (2 ^ 32) (omega arith), lt-ltb (x.stated + e.stated) (2 ^ 64) (omega arith), le-ltb (x.disk + e.disk) (2 ^ 64) (omega arith))
-
-      pub all-fit : x.disk ≤ 18446744073709551615 - e.disk → fits (plus x e) ≡ true
-      unfolding fits
-      all-fit l = rw (lt-ltb (x.frames + e.frames) (2 ^ 32) (omega arith), lt-ltb (x.stated + e.stated) (2 ^ 64) (omega arith), lt-ltb (x.disk + e.disk) (2 ^ 64) (omega arith))
+  pub no_disk : (x.disk + e.disk < 2 ^ 64 → ⊥) → fits (plus x e) ≡ false
+  no_disk h = by_test (fits (plus x e)) (λ t. absurd (h (fits_each (plus x e) t).2)) (λ t. t)
 
 -- ---- what is judged
 module _ (l : List Entry) where
-  pub judged_big : all_fit l ≡ false → judged l ≡ sumTooBig
+  pub judged_big : all_fit l ≡ false → judged l ≡ (Err SumTooBig)
   unfolding judged pick
   judged_big f = rw f
 
-  pub judged_full : all_fit l ≡ true → 64 < length l → judged l ≡ mapFull
+  pub judged_full : all_fit l ≡ true → 64 < length l → judged l ≡ (Err MapFull)
   unfolding judged pick
   judged_full f h = rw (f, lt-leb (length l) 64 h)
 
-  pub judged-made : all_fit l ≡ true → length l ≤ 64 → judged l ≡ made l
+  pub judged-made : all_fit l ≡ true → length l ≤ 64 → judged l ≡ Ok l
   unfolding judged pick
   judged-made f h = rw (f, le-leb (length l) 64 h)
 
 -- what was made is the list that was judged, and fits
-pub made-is : (l r : List Entry) → judged l ≡ made r → (r ≡ l) × (all_fit l ≡ true) × (length l ≤ 64)
+pub made-is : (l r : List Entry) → judged l ≡ Ok r → (r ≡ l) × (all_fit l ≡ true) × (length l ≤ 64)
 unfolding judged pick
 made-is l r h = go (all_fit l) refl (leb (length l) 64) refl h
   where
-    go : (f : Bool) → all_fit l ≡ f → (k : Bool) → leb (length l) 64 ≡ k → pick f (pick k (made l) mapFull) sumTooBig ≡ made r → (r ≡ l) × (all_fit l ≡ true) × (length l ≤ 64)
+    go : (f : Bool) → all_fit l ≡ f → (k : Bool) → leb (length l) 64 ≡ k → pick f (pick k (Ok l) (Err MapFull)) (Err SumTooBig) ≡ Ok r → (r ≡ l) × (all_fit l ≡ true) × (length l ≤ 64)
     go true p true q e = (cc, p, leb-true (length l) 64 q)
     go true p false q e = absurd (let z : ◌≡◌ {A = ℕ} 0 1 = cc in omega arith)
     go false p k q e = absurd (let z : ◌≡◌ {A = ℕ} 0 1 = cc in omega arith)
+
+-- ---- the sum of two entries, or none
+some_same : (x y : Entry) → ◌≡◌ {A = Option Entry} (Some x) (Some y) → x ≡ y
+some_same x y h = cc
+
+module _ (x e : Entry) (r : Option Entry) (h : r ≡ pick (fits (plus x e)) (Some (plus x e)) None) where
+  pub summed : (sum : Entry) → r ≡ Some sum → (fits (plus x e) ≡ true) × (sum ≡ plus x e)
+  unfolding pick
+  summed sum q = by_test (fits (plus x e))
+      (λ t. (t, some_same sum (plus x e) (sym q ∙ h ∙ rw t)))
+      (λ t. absurd (let z : ◌≡◌ {A = Option Entry} (Some sum) None = sym q ∙ h ∙ rw t in let y : ◌≡◌ {A = ℕ} 0 1 = cc in omega arith))
+
+  pub unsummed : r ≡ None → fits (plus x e) ≡ false
+  unfolding pick
+  unsummed q = by_test (fits (plus x e))
+      (λ t. absurd (let z : ◌≡◌ {A = Option Entry} (Some (plus x e)) None = sym (h ∙ rw t) ∙ q in let y : ◌≡◌ {A = ℕ} 0 1 = cc in omega arith))
+      (λ t. t)

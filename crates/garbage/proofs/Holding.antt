@@ -8,10 +8,11 @@ use native.Mathlib.Numerals.{add-one}
 use lib.ListN.{length, take, drop, get_or, set, length-map, length-append, length-drop, take-append-drop, get_or-append, get_or-map}
 use lib.Seq.{drop-append-add, drop-drop, ext_get_or, take_at, drop-cons, set_at, append_snoc}
 use Rattle.garbage.specs.Entries.{Entry, ascending_from, all_fit}
-use Rattle.garbage.specs.Maps.{Columns, entry_at, rows, with_entries}
-use Rattle.garbage.specs.Columns.{Whole, Rising, Ready, written, state, holds, rising_from}
+use Rattle.garbage.specs.declared.map.FragmentationMap.{FragmentationMap}
+use Rattle.garbage.specs.Maps.{Columns, columns_of, map_of, entry_at, rows, entries_of, with_entries, holding}
+use Rattle.garbage.specs.Columns.{Whole, Rising, Ready, pushed, rising_from}
 use Rattle.garbage.proofs.Added.{no_entry, ids_of}
-use Rattle.garbage.proofs.Slots.{rows-length, row_at, column, columns_are, state-is, ascending_is}
+use Rattle.garbage.proofs.Slots.{rows-length, row_at, column, columns_are, map-is, ascending_is}
 
 entry-is : {a a' b b' x x' y y' : ℕ} → a ≡ a' → b ≡ b' → x ≡ x' → y ≡ y' → ◌≡◌ {A = Entry} (record { id = a; frames = b; stated = x; disk = y }) (record { id = a'; frames = b'; stated = x'; disk = y' })
 entry-is a b x y = cc
@@ -54,34 +55,42 @@ module _ (c : Columns) where
   part : (f : Entry → ℕ) (xs : List ℕ) → ((k : ℕ) → f (entry_at c k) ≡ get_or xs k 0) → (n : ℕ) → n ≤ length xs → map f (rows c 0 n) ++ drop (length (rows c 0 n)) xs ≡ xs
   part f xs e n h = ap₂ (λ (t : List ℕ) (k : ℕ). t ++ drop k xs) (column c f xs e 0 n (omega arith)) (rows-length c 0 n) ∙ take-append-drop n xs
 
--- columns as they stand hold their own entries
-pub holds-own : (a b x y : List ℕ) (n : ℕ) → n ≤ 64 → Whole (record { ids = a; frames = b; stated = x; disk = y })
-    → state n (record { ids = a; frames = b; stated = x; disk = y }) ≡ holds (record { ids = a; frames = b; stated = x; disk = y }) (rows (record { ids = a; frames = b; stated = x; disk = y }) 0 n)
-holds-own a b x y n h w =
-    let c : Columns = record { ids = a; frames = b; stated = x; disk = y } in
-    state-is (sym (rows-length c 0 n))
-    (sym (part c (λ (e : Entry). e.id) a (λ k. refl) n (omega (arith, w.0))))
-    (sym (part c (λ (e : Entry). e.frames) b (λ k. refl) n (omega (arith, w.1))))
-    (sym (part c (λ (e : Entry). e.stated) x (λ k. refl) n (omega (arith, w.2))))
-    (sym (part c (λ (e : Entry). e.disk) y (λ k. refl) n (omega (arith, w.3))))
+-- a map holds its own entries
+pub holds-own : (m : FragmentationMap) → m.count ≤ 64 → Whole (columns_of m) → map_of m.count (columns_of m) ≡ holding m (entries_of m)
+holds-own m h w =
+    let c : Columns = columns_of m in
+    let n : ℕ = m.count in
+    map-is (sym (rows-length c 0 n))
+    (sym (part c (λ (e : Entry). e.id) m.ids (λ k. refl) n (omega (arith, w.0))))
+    (sym (part c (λ (e : Entry). e.frames) m.frames (λ k. refl) n (omega (arith, w.1))))
+    (sym (part c (λ (e : Entry). e.stated) m.stated (λ k. refl) n (omega (arith, w.2))))
+    (sym (part c (λ (e : Entry). e.disk) m.disk (λ k. refl) n (omega (arith, w.3))))
 
-module _ (c : Columns) (w : Whole c) (l : List Entry) where
-  pub whole_with : length l ≤ 64 → Whole (with_entries c l)
+-- the last of two lists that a map holds one after the other
+pub holding-again : (m : FragmentationMap) (l k : List Entry) → length l ≤ length k → holding (holding m l) k ≡ holding m k
+holding-again m l k h = ap (map_of (length k)) (with_with (columns_of m) l k h)
+
+module _ (m : FragmentationMap) (w : Whole (columns_of m)) (l : List Entry) where
+  abbrev c : Columns
+  c = columns_of m
+
+  pub whole_with : length l ≤ 64 → Whole (columns_of (holding m l))
   whole_with k = (sized (λ (e : Entry). e.id) c.ids l w.0 k, sized (λ (e : Entry). e.frames) c.frames l w.1 k, sized (λ (e : Entry). e.stated) c.stated l w.2 k, sized (λ (e : Entry). e.disk) c.disk l w.3 k)
 
-  rising-ids : ascending_from 0 l ≡ true → rising_from 0 (take (length l) (with_entries c l).ids) ≡ true
+  rising-ids : ascending_from 0 l ≡ true → rising_from 0 (take (length l) (holding m l).ids) ≡ true
   rising-ids t = ap (rising_from 0) (take_at (ids_of l) (drop (length l) c.ids) (length l) (length-map l (λ (e : Entry). e.id))) ∙ sym (ascending_is 0 l) ∙ t
 
-  pub rising_with : length l ≤ 64 → ascending_from 0 l ≡ true → Rising (length l) (with_entries c l)
+  pub rising_with : length l ≤ 64 → ascending_from 0 l ≡ true → Rising (holding m l)
   rising_with k t = record { few = k; rising = rising-ids t; whole = whole_with k }
 
-  pub ready_with : length l ≤ 64 → ascending_from 0 l ≡ true → all_fit l ≡ true → Ready (length l) (with_entries c l)
-  ready_with k t f = record { few = k; rising = rising-ids t; whole = whole_with k; fit = ap all_fit (rows_with c l) ∙ f }
+  pub ready_with : length l ≤ 64 → ascending_from 0 l ≡ true → all_fit l ≡ true → Ready (holding m l)
+  ready_with k t f = record { sound = rising_with k t; fit = ap all_fit (rows_with c l) ∙ f }
 
-  -- one entry more, written past those held
-  pub written-past : (e : Entry) → length l < 64 → written (length l) (with_entries c l) e ≡ with_entries c (l ++ (e ∷ []))
-  written-past e k =
-      columns_are
+  -- one entry more, past those held
+  pub pushed-past : (e : Entry) → length l < 64 → pushed (holding m l) e ≡ holding m (l ++ (e ∷ []))
+  pushed-past e k =
+      map-is
+      (sym (length-append l (e ∷ [])))
       (one_more_lem (λ (e : Entry). e.id) l e c.ids (omega (arith, w.0)))
       (one_more_lem (λ (e : Entry). e.frames) l e c.frames (omega (arith, w.1)))
       (one_more_lem (λ (e : Entry). e.stated) l e c.stated (omega (arith, w.2)))

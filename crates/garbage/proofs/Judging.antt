@@ -9,6 +9,7 @@ use borrow.Author.Tests.{eq-eqb, ne_eqb}
 use Rattle.numbers.specs.Pick.{pick}
 use Rattle.numbers.specs.declared.handle.BlobIndirection.{BlobIndirection}
 use Rattle.garbage.specs.declared.verdict.DeadVerdict.TheVariants.{Dead, Wanted, NoEntry}
+use Rattle.std.specs.Prelude.{Ok}
 use Rattle.garbage.specs.Verdicts.{dead_by}
 use Rattle.garbage.specs.Tallies.{of_file, stated_in, tally}
 use Rattle.garbage.specs.Files.{Frame, File, gone_of, all_gone, stated_of, Own, Finished, AllFinished, Apart, Distinct, In, here, there, some_gone, heavy_gone}
@@ -103,12 +104,12 @@ some_is (f ∷ fs) = go f.gone (some_is fs)
     go false h = h
 
 pub dead-by : (id total : ℕ) (fs : List Frame) → total ≡ stated_of fs
-    → dead_by (tally id (gone_of fs)) total ≡ pick (some_gone fs) (pick (heavy_gone fs) Dead Wanted) NoEntry
+    → dead_by (Ok (tally id (gone_of fs))) total ≡ pick (some_gone fs) (pick (heavy_gone fs) Dead Wanted) NoEntry
 unfolding pick
 dead-by id total fs e =
     go (gone_of fs)
     ∙ ap₂ (λ (x y : Bool). pick x (pick y Dead Wanted) NoEntry) (sym (some_is fs)) (ap (eqb (stated_in (gone_of fs))) e ∙ heavy fs)
   where
-    go : (ps : List BlobIndirection) → dead_by (tally id ps) total ≡ pick (any ps) (pick (eqb (stated_in ps) total) Dead Wanted) NoEntry
+    go : (ps : List BlobIndirection) → dead_by (Ok (tally id ps)) total ≡ pick (any ps) (pick (eqb (stated_in ps) total) Dead Wanted) NoEntry
     go [] = refl
     go (p ∷ ps) = refl

@@ -1,16 +1,15 @@
 -- What the proofs share, and the theorems.
 pub mod Bools
 pub mod Insert
-pub mod Halving
+pub mod Placing
 pub mod Added
 pub mod Fits
-pub mod Grown
 pub mod Slots
 pub mod Sound
-pub mod Dropping
 pub mod Finding
 pub mod Holding
 pub mod Turning
+pub mod Dropping
 pub mod Summing
 pub mod Storing
 pub mod Pruning

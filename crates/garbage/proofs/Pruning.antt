@@ -1,18 +1,27 @@
 -- Entries kept one after another, and the sum of on-disk bytes from one entry on.
 use Prim.Native.Nat.{ℕ, zero, suc, ◌+◌, ◌-◌, ◌≤◌, ◌<◌}
-use mathlib.Core.Path.{◌≡◌, refl, sym, ◌∙◌, ap, ap₂}
+use mathlib.Core.Path.{◌≡◌, refl, sym, ◌∙◌, ap}
 use mathlib.Core.List.{List, [], ◌∷◌, ◌++◌}
-use mathlib.Core.Bool.{Bool, true, false}
+use mathlib.Core.Bool.{Bool, true, false, ◌||◌}
+use lib.Dec.{eqb}
+use Rattle.std.specs.List.{list_any}
 use native.Mathlib.Omega.{arith}
-use lib.ListN.{length, get_or, length-append}
+use lib.ListN.{length, get_or}
 use Rattle.numbers.specs.Pick.{pick}
 use Rattle.garbage.specs.Entries.{Entry}
-use Rattle.garbage.specs.Maps.{Columns, entry_at, rows}
+use Rattle.garbage.specs.declared.map.FragmentationMap.{FragmentationMap}
+use Rattle.garbage.specs.Maps.{Columns, columns_of, map_of, entry_at, rows, holding}
 use Rattle.garbage.specs.Merges.{listed_in, kept_of, disk_sum}
-use Rattle.garbage.specs.Columns.{Whole, State, state, holds, kept_in}
+use Rattle.garbage.specs.Columns.{Whole, pushed}
 use Rattle.garbage.proofs.Slots.{rows-length}
 use Rattle.garbage.proofs.Sound.{cols}
-use Rattle.garbage.proofs.Holding.{written-past, rows_snoc, rows_zero, rows_open, rows_out}
+use Rattle.garbage.proofs.Holding.{pushed-past, rows_snoc, rows_zero, rows_open, rows_out}
+
+-- ---- listed, as a slice's `contains` tells it
+pub listed : (id : ℕ) (xs : List ℕ) → list_any (λ (x : ℕ). eqb x id) xs ≡ listed_in id xs
+unfolding listed_in
+listed id [] = refl
+listed id (x ∷ xs) = ap (λ (b : Bool). eqb x id || b) (listed id xs)
 
 -- ---- one entry more
 module _ (ids : List ℕ) where
@@ -35,34 +44,40 @@ module _ (ids : List ℕ) where
       go true h = omega arith
       go false h = omega arith
 
-  pub keep_none : (c : Columns) → state 0 c ≡ holds c (kept_of ids (rows c 0 0))
-  unfolding kept_of
-  keep_none c = sym (ap (λ (l : List Entry). holds c (kept_of ids l)) (rows_zero c))
-
   append-none : (l : List Entry) → l ++ [] ≡ l
   append-none [] = refl
   append-none (x ∷ l) = ap (λ (t : List Entry). x ∷ t) (append-none l)
 
-  module _ (c : Columns) (w : Whole c) (i : ℕ) (h : i < 64) where
+  pub keep_none : (m : FragmentationMap) → map_of 0 (columns_of m) ≡ holding m (kept_of ids (rows (columns_of m) 0 0))
+  unfolding kept_of
+  keep_none m = sym (ap (λ (l : List Entry). holding m (kept_of ids l)) (rows_zero (columns_of m)))
+
+  module _ (m d : FragmentationMap) (w : Whole (columns_of m)) (i : ℕ) (h : i < 64) (p : d ≡ holding m (kept_of ids (rows (columns_of m) 0 i))) where
     abbrev l : List Entry
-    l = kept_of ids (rows c 0 i)
+    l = kept_of ids (rows (columns_of m) 0 i)
+
+    abbrev e : Entry
+    e = entry_at (columns_of m) i
 
     short : length l ≤ i
-    short = omega (arith, kept-few (rows c 0 i), rows-length c 0 i)
+    short = omega (arith, kept-few (rows (columns_of m) 0 i), rows-length (columns_of m) 0 i)
 
-    pub room-left : (n : ℕ) (d : Columns) → state n d ≡ holds c l → n < 64
-    room-left n d p = let m : n ≡ length l = ap (λ (t : State). t.n) p in omega (arith, short)
+    pub room-left : d.count < 64
+    room-left = let n : d.count ≡ length l = ap (λ (t : FragmentationMap). t.count) p in omega (arith, short)
 
-    pub keep_more : (t t' : State) (e : Entry) → t ≡ holds c l → e ≡ entry_at c i → t' ≡ kept_in (listed_in e.id ids) t e → t' ≡ holds c (kept_of ids (rows c 0 (i + 1)))
+    more : kept_of ids (rows (columns_of m) 0 (i + 1)) ≡ l ++ pick (listed_in e.id ids) (e ∷ []) []
+    more = ap (kept_of ids) (rows_snoc (columns_of m) i) ∙ kept-end (rows (columns_of m) 0 i) e
+
+    pub keep_more : listed_in e.id ids ≡ true → pushed d e ≡ holding m (kept_of ids (rows (columns_of m) 0 (i + 1)))
     unfolding pick
-    keep_more t t' e p q r =
-        r ∙ ap (λ (u : State). kept_in (listed_in e.id ids) u e) p
-        ∙ go (listed_in e.id ids)
-        ∙ ap (holds c) (sym (kept-end (rows c 0 i) e) ∙ ap (λ (x : Entry). kept_of ids (rows c 0 i ++ (x ∷ []))) q ∙ ap (kept_of ids) (sym (rows_snoc c i)))
-      where
-        go : (b : Bool) → kept_in b (holds c l) e ≡ holds c (l ++ pick b (e ∷ []) [])
-        go true = ap₂ state (sym (length-append l (e ∷ []))) (written-past c w l e (omega (arith, short)))
-        go false = ap (holds c) (sym (append-none l))
+    keep_more t =
+        ap (λ (k : FragmentationMap). pushed k e) p
+        ∙ pushed-past m w l e (omega (arith, short))
+        ∙ ap (holding m) (sym (more ∙ ap (λ (b : Bool). l ++ pick b (e ∷ []) []) t))
+
+    pub keep_on : listed_in e.id ids ≡ false → d ≡ holding m (kept_of ids (rows (columns_of m) 0 (i + 1)))
+    unfolding pick
+    keep_on t = p ∙ ap (holding m) (sym (more ∙ ap (λ (b : Bool). l ++ pick b (e ∷ []) []) t ∙ append-none l))
 
 -- ---- on-disk bytes
 abbrev pub only : List ℕ → Columns

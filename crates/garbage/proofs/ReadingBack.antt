@@ -12,10 +12,11 @@ use Rattle.numbers.specs.Pick.{pick}
 use Rattle.numbers.specs.Le.{le, num}
 use Rattle.numbers.specs.LeLaws.{length-le, num-le}
 use Rattle.garbage.specs.declared.map.FragmentationMap.{FragmentationMap}
-use Rattle.garbage.specs.declared.stored.LoadAnswer.TheVariants.{Used}
+use Rattle.std.specs.Prelude.{Ok, Result}
+use Rattle.garbage.specs.declared.stored.LoadRefusal.{LoadRefusal}
 use Rattle.garbage.specs.Entries.{Entry, ascending_from, all_fit}
 use Rattle.garbage.specs.Maps.{Columns, columns_of, entry_at, rows, entries_of, holding, well_formed, empty_map}
-use Rattle.garbage.specs.Stored.{entry_bytes, entries_bytes, stored_form, entry_in, entries_in, latter, instead, instead_all, load_of}
+use Rattle.garbage.specs.Stored.{entry_bytes, entries_bytes, stored_form, entry_in, entries_in, latter, instead, instead_all, stored_count, loaded_by, load_of}
 use Rattle.garbage.proofs.Bools.{and_l, and_r}
 use Rattle.garbage.proofs.Added.{add-past, add_none}
 use Rattle.garbage.proofs.Fits.{fits_each, fit-head, fit-tail}
@@ -131,8 +132,11 @@ module _ (m : FragmentationMap) (rest : List ℕ) (w : well_formed m ≡ true) (
       ∙ ap (λ (l : List Entry). instead_all l []) (entries-back (columns_of m) rest 0 m.count f (λ k q. h k (omega arith)))
       ∙ in_order 0 (entries_of m) [] (well_ascending m w) tt
 
-  pub back : load_of s ≡ record { answer = Used (length (stored_form m)); map = holding empty_map (entries_of m) }
-  unfolding load_of pick
+  all_there : stored_count s ≡ Ok m.count
+  unfolding stored_count pick
+  all_there = rw (le-ltb (length s) 4 (omega (arith, long)), count-back, le-ltb 64 m.count few, le-ltb (length s - 4) (28 * m.count) (omega (arith, long)))
+
+  pub back : load_of s ≡ record { answer = Ok (length (stored_form m)); map = holding empty_map (entries_of m) }
   back =
-      rw (le-ltb (length s) 4 (omega (arith, long)), count-back, le-ltb 64 m.count few, le-ltb (length s - 4) (28 * m.count) (omega (arith, long)))
-      (ap₂ (λ (n : ℕ) (l : List Entry). record { answer = Used n; map = holding empty_map l }) (sym (length-stored m)) loaded)
+      ap (λ (r : Result ℕ LoadRefusal). loaded_by s r) all_there
+      ∙ ap₂ (λ (n : ℕ) (l : List Entry). record { answer = Ok n; map = holding empty_map l }) (sym (length-stored m)) loaded

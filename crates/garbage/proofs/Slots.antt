@@ -6,12 +6,16 @@ use mathlib.Core.Bool.{Bool, true, false, ◌&&◌}
 use native.Mathlib.Omega.{arith}
 use native.Mathlib.Numerals.{add-one}
 use lib.ListN.{length, take, drop, get_or, set, length-set, take-append-drop}
-use lib.Seq.{length-take-le, set-append_left, drop-cons, set-get_or}
+use lib.Seq.{length-take-le, set-append_left, drop-cons, get_or-take}
+use Rattle.std.specs.Prelude.{Ok, Err}
 use lib.Dec.{leb}
-use Rattle.garbage.specs.Entries.{Entry, plus, added, ascending_from, fits, all_fit, judged}
-use Rattle.garbage.specs.Maps.{Columns, entry_at, rows, with_entries}
-use Rattle.garbage.specs.Columns.{Whole, state, holds, coded, add_of, instead_of, place_in, rising_from, inserted_at}
-use Rattle.garbage.specs.Stored.{latter}
+use Rattle.garbage.specs.declared.map.FragmentationMap.{FragmentationMap}
+use Rattle.garbage.specs.declared.map.CountRefusal.TheVariants.{MapFull, SumTooBig}
+use Rattle.garbage.specs.declared.dropped.Dropped.{Dropped}
+use Rattle.garbage.specs.Entries.{Entry, plus, added, joined, ascending_from, fits, all_fit, judged}
+use Rattle.garbage.specs.Maps.{Columns, columns_of, map_of, entry_at, rows, entries_of, with_entries, holding}
+use Rattle.garbage.specs.Columns.{Whole, Rising, Ready, StandsAt, GoesTo, place_in, rising_from, inserted_at, put_at, written}
+use Rattle.garbage.specs.Drops.{answered}
 use Rattle.garbage.proofs.Insert.{put, put_length}
 use Rattle.garbage.proofs.Added.{no_entry, ids_of, place_of, place-le, add-found, add_fresh}
 use Rattle.garbage.proofs.Fits.{fit-set, fit_put, judged_big, judged_full, judged-made}
@@ -77,7 +81,7 @@ module _ (f : Entry → ℕ) (xs : List ℕ) (l : List Entry) (n : ℕ) (h : n �
 
   pub put_column : r ≤ n → inserted_at n r (f g) xs ≡ map f (put l r g) ++ drop (length (put l r g)) xs
   put_column q =
-      let m : n + 1 ≡ length (put l r g) = add-one n ∙ ap suc (sym k) ∙ sym (put_length l r g g (omega arith)) in
+      let m : n + 1 ≡ length (put l r g) = add-one n ∙ ap suc (sym k) ∙ sym (put_length l r g (omega arith)) in
       let a : take (n + 1) (put xs r (f g)) ≡ put (take n xs) r (f g) = ap (λ (j : ℕ). take j (put xs r (f g))) (add-one n) ∙ take_put n r xs (f g) h q in
       ap₂ (λ (t : List ℕ) (j : ℕ). t ++ drop j xs) (a ∙ ap (λ (t : List ℕ). put t r (f g)) (sym is) ∙ sym (map_put f l r g)) m
 
@@ -86,9 +90,9 @@ pub columns_are : {a a' b b' x x' y y' : List ℕ} → a ≡ a' → b ≡ b' →
     → ◌≡◌ {A = Columns} (record { ids = a; frames = b; stated = x; disk = y }) (record { ids = a'; frames = b'; stated = x'; disk = y' })
 columns_are a b x y = cc
 
-pub state-is : {n n' : ℕ} {a a' b b' x x' y y' : List ℕ} → n ≡ n' → a ≡ a' → b ≡ b' → x ≡ x' → y ≡ y'
-    → state n (record { ids = a; frames = b; stated = x; disk = y }) ≡ state n' (record { ids = a'; frames = b'; stated = x'; disk = y' })
-state-is k a b x y = cc
+pub map-is : {n n' : ℕ} {a a' b b' x x' y y' : List ℕ} → n ≡ n' → a ≡ a' → b ≡ b' → x ≡ x' → y ≡ y'
+    → ◌≡◌ {A = FragmentationMap} (record { count = n; ids = a; frames = b; stated = x; disk = y }) (record { count = n'; ids = a'; frames = b'; stated = x'; disk = y' })
+map-is k a b x y = cc
 
 module _ (n : ℕ) (c : Columns) (h : n ≤ 64) (w : Whole c) where
   abbrev pub held : List Entry
@@ -114,23 +118,23 @@ module _ (n : ℕ) (c : Columns) (h : n ≤ 64) (w : Whole c) where
 
   -- one slot set to g, and g put in at a slot
   pub set_slot : (r : ℕ) (g : Entry) → r < n
-      → state n (record { ids = set c.ids r g.id; frames = set c.frames r g.frames; stated = set c.stated r g.stated; disk = set c.disk r g.disk })
-      ≡ state (length (set held r g)) (with_entries c (set held r g))
+      → map_of n (record { ids = set c.ids r g.id; frames = set c.frames r g.frames; stated = set c.stated r g.stated; disk = set c.disk r g.disk })
+      ≡ map_of (length (set held r g)) (with_entries c (set held r g))
   set_slot r g q =
-      state-is (sym (length-set held r g ∙ len))
+      map-is (sym (length-set held r g ∙ len))
       (set-column (λ (e : Entry). e.id) c.ids held n (omega (arith, w.0)) len ids_are r g q)
       (set-column (λ (e : Entry). e.frames) c.frames held n (omega (arith, w.1)) len frames_are r g q)
       (set-column (λ (e : Entry). e.stated) c.stated held n (omega (arith, w.2)) len stated_are r g q)
       (set-column (λ (e : Entry). e.disk) c.disk held n (omega (arith, w.3)) len disk_are r g q)
 
   long : (r : ℕ) (g : Entry) → r ≤ n → length (put held r g) ≡ n + 1
-  long r g q = put_length held r g g (omega (arith, len)) ∙ ap suc len ∙ sym (add-one n)
+  long r g q = put_length held r g (omega (arith, len)) ∙ ap suc len ∙ sym (add-one n)
 
   pub put_slot : (r : ℕ) (g : Entry) → r ≤ n
-      → state (n + 1) (record { ids = inserted_at n r g.id c.ids; frames = inserted_at n r g.frames c.frames; stated = inserted_at n r g.stated c.stated; disk = inserted_at n r g.disk c.disk })
-      ≡ state (length (put held r g)) (with_entries c (put held r g))
+      → map_of (n + 1) (record { ids = inserted_at n r g.id c.ids; frames = inserted_at n r g.frames c.frames; stated = inserted_at n r g.stated c.stated; disk = inserted_at n r g.disk c.disk })
+      ≡ map_of (length (put held r g)) (with_entries c (put held r g))
   put_slot r g q =
-      state-is (sym (long r g q))
+      map-is (sym (long r g q))
       (put_column (λ (e : Entry). e.id) c.ids held n (omega (arith, w.0)) len ids_are r g q)
       (put_column (λ (e : Entry). e.frames) c.frames held n (omega (arith, w.1)) len frames_are r g q)
       (put_column (λ (e : Entry). e.stated) c.stated held n (omega (arith, w.2)) len stated_are r g q)
@@ -146,66 +150,90 @@ module _ (n : ℕ) (c : Columns) (h : n ≤ 64) (w : Whole c) where
     pub at_held : r < n → get_or held (place_of id held) no_entry ≡ entry_at c r
     at_held q = ap (λ (k : ℕ). get_or held k no_entry) (sym placed) ∙ row_at c 0 n r q ∙ ap (entry_at c) (let z : 0 + r ≡ r = omega arith in z)
 
--- ---- an entry added
-module _ (n : ℕ) (c : Columns) (e : Entry) (h : n ≤ 64) (w : Whole c) (f : all_fit (rows c 0 n) ≡ true) (r : ℕ) (pr : r ≡ place_in e.id (take n c.ids)) where
+-- ---- what a search found among the ids of a map
+module _ (m : FragmentationMap) (w : Rising m) (id r : ℕ) where
+  taken : length (take m.count m.ids) ≡ m.count
+  taken = length-take-le m.count m.ids (omega (arith, w.few, w.whole.0))
+
+  module _ (s : StandsAt id (take m.count m.ids) r) where
+    pub below : r < m.count
+    below = omega (arith, s.within, taken)
+
+    pub same_id : get_or m.ids r 0 ≡ id
+    same_id = sym (get_or-take m.count m.ids r 0 below) ∙ s.there
+
+    pub place_below : place_of id (entries_of m) < length (entries_of m)
+    place_below = omega (arith, rows-length (columns_of m) 0 m.count, placed m.count (columns_of m) w.few w.whole id r s.place, below)
+
+    pub there_is : get_or (entries_of m) (place_of id (entries_of m)) no_entry ≡ entry_at (columns_of m) r
+    there_is = at_held m.count (columns_of m) w.few w.whole id r s.place below
+
+  module _ (g : GoesTo id (take m.count m.ids) r) where
+    pub within : r ≤ m.count
+    within = omega (arith, g.within, taken)
+
+    pub not_there : place_of id (entries_of m) < length (entries_of m) → (get_or (entries_of m) (place_of id (entries_of m)) no_entry).id ≡ id → ⊥
+    not_there q s =
+        let u : r < m.count = omega (arith, q, rows-length (columns_of m) 0 m.count, placed m.count (columns_of m) w.few w.whole id r g.place) in
+        g.absent (omega (arith, u, taken)) (get_or-take m.count m.ids r 0 u ∙ ap (λ (x : Entry). x.id) (sym (at_held m.count (columns_of m) w.few w.whole id r g.place u)) ∙ s)
+
+-- ---- an entry joined to those of a map
+module _ (m : FragmentationMap) (w : Rising m) (e : Entry) (r : ℕ) where
+  abbrev c : Columns
+  c = columns_of m
+
   abbrev l : List Entry
-  l = rows c 0 n
+  l = entries_of m
 
   -- its id stands at slot r
-  module _ (q : r < n) (same : get_or c.ids r 0 ≡ e.id) where
-    here : added e l ≡ set l r (plus (entry_at c r) e)
-    here =
-        let a : get_or l (place_of e.id l) no_entry ≡ entry_at c r = at_held n c h w e.id r pr q in
-        add-found plus e l (omega (arith, rows-length c 0 n, placed n c h w e.id r pr)) (ap (λ (x : Entry). x.id) a ∙ same)
-        ∙ ap₂ (λ (x : Entry) (k : ℕ). set l k (plus x e)) a (sym (placed n c h w e.id r pr))
+  module _ (s : StandsAt e.id (take m.count m.ids) r) where
+    pub joins : (f : Entry → Entry → Entry) → joined f e l ≡ set l r (f (entry_at c r) e)
+    joins f =
+        add-found f e l (place_below m w e.id r s) (ap (λ (x : Entry). x.id) (there_is m w e.id r s) ∙ same_id m w e.id r s)
+        ∙ ap₂ (λ (x : Entry) (k : ℕ). set l k (f x e)) (there_is m w e.id r s) (sym (placed m.count c w.few w.whole e.id r s.place))
 
-    own_test : all_fit (set l r (plus (entry_at c r) e)) ≡ fits (plus (entry_at c r) e)
-    own_test = fit-set l r (plus (entry_at c r) e) (omega (arith, rows-length c 0 n)) f
+    pub overwritten : (f : Entry → Entry → Entry) → written r m (f (entry_at c r) e) ≡ holding m (joined f e l)
+    overwritten f = set_slot m.count c w.few w.whole r (f (entry_at c r) e) (below m w e.id r s) ∙ ap (holding m) (sym (joins f))
 
-    pub too_big : fits (plus (entry_at c r) e) ≡ false → state 66 c ≡ add_of (state n c) e
-    too_big t = sym (ap (coded c) (ap judged here ∙ judged_big (set l r (plus (entry_at c r) e)) (own_test ∙ t)))
+  -- it does not stand there
+  module _ (g : GoesTo e.id (take m.count m.ids) r) where
+    pub puts : (f : Entry → Entry → Entry) → joined f e l ≡ put l r e
+    puts f = add_fresh f e l (not_there m w e.id r g) ∙ ap (λ (k : ℕ). put l k e) (sym (placed m.count c w.few w.whole e.id r g.place))
 
-    pub updated : fits (plus (entry_at c r) e) ≡ true
-        → state n (record { ids = c.ids; frames = set c.frames r (get_or c.frames r 0 + e.frames); stated = set c.stated r (get_or c.stated r 0 + e.stated); disk = set c.disk r (get_or c.disk r 0 + e.disk) }) ≡ add_of (state n c) e
-    updated t =
-        let g : Entry = plus (entry_at c r) e in
-        state-is refl (sym (set-get_or c.ids r 0)) refl refl refl
-        ∙ set_slot n c h w r g q
-        ∙ sym (ap (coded c) (ap judged here ∙ judged-made (set l r g) (own_test ∙ t) (omega (arith, length-set l r g, rows-length c 0 n))))
+    pub added_at : (f : Entry → Entry → Entry) → put_at r m e ≡ holding m (joined f e l)
+    added_at f = put_slot m.count c w.few w.whole r e (within m w e.id r g) ∙ ap (holding m) (sym (puts f))
 
-  -- it does not
-  module _ (no : r < n → get_or c.ids r 0 ≡ e.id → ⊥) (ef : fits e ≡ true) where
-    there : added e l ≡ put l r e
-    there =
-        add_fresh plus e l (λ q s.
-        let u : r < n = omega (arith, rows-length c 0 n, placed n c h w e.id r pr) in
-        no u (ap (λ (x : Entry). x.id) (sym (at_held n c h w e.id r pr u)) ∙ s))
-        ∙ ap (λ (k : ℕ). put l k e) (sym (placed n c h w e.id r pr))
+-- ---- an entry added
+module _ (m : FragmentationMap) (w : Ready m) (e : Entry) (r : ℕ) where
+  abbrev sum : Entry
+  sum = plus (entry_at (columns_of m) r) e
 
-    pub no_room : n ≡ 64 → state 65 c ≡ add_of (state n c) e
-    no_room t = sym (ap (coded c) (ap judged there ∙ judged_full (put l r e) (fit_put l r e ef f) (omega (arith, long n c h w r e (place_in_lem n c h w e.id r pr)))))
+  module _ (s : StandsAt e.id (take m.count m.ids) r) where
+    is : added e (entries_of m) ≡ set (entries_of m) r sum
+    is = joins m w.sound e r s plus
 
-    pub put_in : n < 64
-        → state (n + 1) (record { ids = inserted_at n r e.id c.ids; frames = inserted_at n r e.frames c.frames; stated = inserted_at n r e.stated c.stated; disk = inserted_at n r e.disk c.disk }) ≡ add_of (state n c) e
-    put_in t =
-        put_slot n c h w r e (place_in_lem n c h w e.id r pr)
-        ∙ sym (ap (coded c) (ap judged there ∙ judged-made (put l r e) (fit_put l r e ef f) (omega (arith, long n c h w r e (place_in_lem n c h w e.id r pr)))))
+    own_test : all_fit (set (entries_of m) r sum) ≡ fits sum
+    own_test = fit-set (entries_of m) r sum (omega (arith, rows-length (columns_of m) 0 m.count, below m w.sound e.id r s)) w.fit
 
--- ---- an entry put instead of the one of its id
-module _ (n : ℕ) (c : Columns) (e : Entry) (h : n ≤ 64) (w : Whole c) (r : ℕ) (pr : r ≡ place_in e.id (take n c.ids)) where
-  pub replaced : r < n → get_or c.ids r 0 ≡ e.id
-      → state n (record { ids = set c.ids r e.id; frames = set c.frames r e.frames; stated = set c.stated r e.stated; disk = set c.disk r e.disk }) ≡ instead_of (state n c) e
-  replaced q same =
-      let a : get_or (rows c 0 n) (place_of e.id (rows c 0 n)) no_entry ≡ entry_at c r = at_held n c h w e.id r pr q in
-      set_slot n c h w r e q
-      ∙ ap (holds c) (sym (add-found latter e (rows c 0 n) (omega (arith, rows-length c 0 n, placed n c h w e.id r pr)) (ap (λ (x : Entry). x.id) a ∙ same)
-      ∙ ap (λ (k : ℕ). set (rows c 0 n) k e) (sym (placed n c h w e.id r pr))))
+    pub too_big : fits sum ≡ false → ◌≡◌ {A = Dropped} (record { answer = Err SumTooBig; map = m }) (answered m (judged (added e (entries_of m))))
+    too_big t = sym (ap (answered m) (ap judged is ∙ judged_big (set (entries_of m) r sum) (own_test ∙ t)))
 
-  pub put_new : (r < n → get_or c.ids r 0 ≡ e.id → ⊥)
-      → state (n + 1) (record { ids = inserted_at n r e.id c.ids; frames = inserted_at n r e.frames c.frames; stated = inserted_at n r e.stated c.stated; disk = inserted_at n r e.disk c.disk }) ≡ instead_of (state n c) e
-  put_new absent =
-      put_slot n c h w r e (place_in_lem n c h w e.id r pr)
-      ∙ ap (holds c) (sym (add_fresh latter e (rows c 0 n) (λ q s.
-      let u : r < n = omega (arith, rows-length c 0 n, placed n c h w e.id r pr) in
-      absent u (ap (λ (x : Entry). x.id) (sym (at_held n c h w e.id r pr u)) ∙ s))
-      ∙ ap (λ (k : ℕ). put (rows c 0 n) k e) (sym (placed n c h w e.id r pr))))
+    pub grown : fits sum ≡ true → ◌≡◌ {A = Dropped} (record { answer = Ok tt; map = written r m sum }) (answered m (judged (added e (entries_of m))))
+    grown t =
+        ap (λ (d : FragmentationMap). record { answer = Ok tt; map = d }) (overwritten m w.sound e r s plus)
+        ∙ sym (ap (answered m) (judged-made (added e (entries_of m)) (ap all_fit is ∙ own_test ∙ t) (omega (arith, ap length is, length-set (entries_of m) r sum, rows-length (columns_of m) 0 m.count, w.sound.few))))
+
+  module _ (g : GoesTo e.id (take m.count m.ids) r) (ef : fits e ≡ true) where
+    is_put : added e (entries_of m) ≡ put (entries_of m) r e
+    is_put = puts m w.sound e r g plus
+
+    longer : length (put (entries_of m) r e) ≡ m.count + 1
+    longer = put_length (entries_of m) r e (omega (arith, rows-length (columns_of m) 0 m.count, within m w.sound e.id r g)) ∙ omega (arith, rows-length (columns_of m) 0 m.count)
+
+    pub no_room : m.count ≡ 64 → ◌≡◌ {A = Dropped} (record { answer = Err MapFull; map = m }) (answered m (judged (added e (entries_of m))))
+    no_room t = sym (ap (answered m) (ap judged is_put ∙ judged_full (put (entries_of m) r e) (fit_put (entries_of m) r e ef w.fit) (omega (arith, longer, t))))
+
+    pub put_new : m.count < 64 → ◌≡◌ {A = Dropped} (record { answer = Ok tt; map = put_at r m e }) (answered m (judged (added e (entries_of m))))
+    put_new t =
+        ap (λ (d : FragmentationMap). record { answer = Ok tt; map = d }) (added_at m w.sound e r g plus)
+        ∙ sym (ap (answered m) (judged-made (added e (entries_of m)) (ap all_fit is_put ∙ fit_put (entries_of m) r e ef w.fit) (omega (arith, ap length is_put, longer, t))))

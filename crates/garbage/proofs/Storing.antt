@@ -1,22 +1,27 @@
 -- The stored form, entry by entry: its length, one entry more written, one more read.
-use Prim.Native.Nat.{ℕ, zero, suc, ◌+◌, ◌*◌, ◌≤◌, ◌<◌}
+use Prim.Native.Nat.{ℕ, zero, suc, ◌+◌, ◌-◌, ◌*◌, ◌≤◌, ◌<◌}
 use mathlib.Core.Path.{◌≡◌, refl, sym, ◌∙◌, ap, subst}
 use mathlib.Core.List.{List, [], ◌∷◌, ◌++◌, append_assoc}
-use mathlib.Core.Bool.{true}
+use mathlib.Core.Bool.{Bool, true, false}
+use lib.Dec.{ltb}
+use borrow.Author.Tests.{ltb-false}
+use Rattle.std.specs.Prelude.{Result, Ok, Err}
+use Rattle.numbers.specs.Pick.{pick}
+use Rattle.garbage.specs.declared.stored.LoadRefusal.{LoadRefusal}
 use native.Mathlib.Omega.{arith}
 use native.Mathlib.Numerals.{add-one}
 use lib.ListN.{length, drop, length-append}
 use lib.Seq.{sets, drop-drop}
-use Rattle.numbers.specs.Le.{le}
+use Rattle.numbers.specs.Le.{le, num}
 use Rattle.numbers.specs.LeLaws.{length-le, sets_then}
 use Rattle.garbage.specs.declared.map.FragmentationMap.{FragmentationMap}
 use Rattle.garbage.specs.Entries.{Entry, ascending_from}
-use Rattle.garbage.specs.Maps.{Columns, columns_of, entry_at, rows, entries_of, with_entries}
-use Rattle.garbage.specs.Columns.{Whole, Rising, State, state, holds, instead_of}
-use Rattle.garbage.specs.Stored.{entry_bytes, entries_bytes, stored_form, entry_in, entries_in, latter, instead, instead_all}
+use Rattle.garbage.specs.Maps.{Columns, columns_of, map_of, entry_at, rows, entries_of, holding}
+use Rattle.garbage.specs.Columns.{Whole, Rising}
+use Rattle.garbage.specs.Stored.{entry_bytes, entries_bytes, stored_form, entry_in, entries_in, latter, instead, instead_all, stored_count}
 use Rattle.garbage.proofs.Added.{add_ascending, add_longer}
 use Rattle.garbage.proofs.Slots.{rows-length}
-use Rattle.garbage.proofs.Holding.{rows_with, with_with, rising_with, rows_snoc, rows_zero}
+use Rattle.garbage.proofs.Holding.{rows_with, holding-again, rising_with, rows_snoc, rows_zero}
 
 -- ---- writing
 pub length-entry : (e : Entry) → length (entry_bytes e) ≡ 28
@@ -89,34 +94,49 @@ none_ascending : ascending_from 0 [] ≡ true
 unfolding ascending_from
 none_ascending = refl
 
-module _ (c : Columns) (w : Whole c) (s : List ℕ) where
+module _ (m : FragmentationMap) (w : Whole (columns_of m)) (s : List ℕ) where
   -- what the first i entries make
   abbrev pub read : ℕ → List Entry
   read i = instead_all (entries_in i (drop 4 s)) []
 
-  pub read-few : (i : ℕ) → length (read i) ≤ i
+  read-few : (i : ℕ) → length (read i) ≤ i
   read-few i = omega (arith, instead-length (entries_in i (drop 4 s)) [], entries-length i (drop 4 s))
 
-  pub get_none : state 0 c ≡ holds c (read 0)
+  pub get_none : m.count ≡ 0 → map_of m.count (columns_of m) ≡ holding m (read 0)
   unfolding entries_in instead_all
-  get_none = refl
+  get_none h = ap (λ (n : ℕ). map_of n (columns_of m)) h
 
-  pub get_rising : (i n : ℕ) (d : Columns) → state n d ≡ holds c (read i) → i < 64 → (n < 64) × Rising n d
-  get_rising i n d p h =
-      let k = read-few i in
-      let m : n ≡ length (read i) = ap (λ (t : State). t.n) p in
-      (omega arith, subst (λ (t : State). Rising t.n t.columns) (sym p) (rising_with c w (read i) (omega arith) (instead_ascending (entries_in i (drop 4 s)) [] none_ascending)))
+  module _ (i : ℕ) (d : FragmentationMap) (p : d ≡ holding m (read i)) where
+    pub get_rising : i < 64 → (d.count < 64) × Rising d
+    get_rising h =
+        let k = read-few i in
+        let n : d.count ≡ length (read i) = ap (λ (t : FragmentationMap). t.count) p in
+        (omega arith, subst Rising (sym p) (rising_with m w (read i) (omega arith) (instead_ascending (entries_in i (drop 4 s)) [] none_ascending)))
 
-  pub get_more : (i : ℕ) (t t' : State) (e : Entry) → t ≡ holds c (read i) → e ≡ entry_in (drop (4 + 28 * i) s) → t' ≡ instead_of t e → t' ≡ holds c (read (i + 1))
-  get_more i t t' e p q r =
-      let l : List Entry = read i in
-      let z : read (i + 1) ≡ instead e l =
-      ap (λ (k : ℕ). instead_all (entries_in k (drop 4 s)) []) (add-one i)
-      ∙ ap (λ (es : List Entry). instead_all es []) (read-end i (drop 4 s))
-      ∙ instead-end (entries_in i (drop 4 s)) (entry_in (drop (28 * i) (drop 4 s))) []
-      ∙ ap (λ (x : Entry). instead x l) (ap entry_in (drop-drop (28 * i) 4 s) ∙ sym q) in
-      r
-      ∙ ap (λ (u : State). instead_of u e) p
-      ∙ ap (λ (m : List Entry). holds (with_entries c l) (instead e m)) (rows_with c l)
-      ∙ ap (λ (d : Columns). state (length (instead e l)) d) (with_with c l (instead e l) (add_longer latter e l).0)
-      ∙ ap (holds c) (sym z)
+    pub get_more : (d' : FragmentationMap) (e : Entry) → e ≡ entry_in (drop (4 + 28 * i) s) → d' ≡ holding d (instead e (entries_of d)) → d' ≡ holding m (read (i + 1))
+    get_more d' e q r =
+        let l : List Entry = read i in
+        let z : read (i + 1) ≡ instead e l =
+        ap (λ (k : ℕ). instead_all (entries_in k (drop 4 s)) []) (add-one i)
+        ∙ ap (λ (es : List Entry). instead_all es []) (read-end i (drop 4 s))
+        ∙ instead-end (entries_in i (drop 4 s)) (entry_in (drop (28 * i) (drop 4 s))) []
+        ∙ ap (λ (x : Entry). instead x l) (ap entry_in (drop-drop (28 * i) 4 s) ∙ sym q) in
+        r
+        ∙ ap (λ (t : FragmentationMap). holding t (instead e (entries_of t))) p
+        ∙ ap (λ (x : List Entry). holding (holding m l) (instead e x)) (rows_with (columns_of m) l)
+        ∙ holding-again m l (instead e l) (add_longer latter e l).0
+        ∙ ap (holding m) (sym z)
+
+-- what a count that was read tells of the buffer
+pub counted : (s : List ℕ) (k : ℕ) → stored_count s ≡ Ok k → (k ≤ 64) × (4 + 28 * k ≤ length s)
+unfolding stored_count pick
+counted s k e = go (ltb (length s) 4) refl (ltb 64 (num 4 s)) refl (ltb (length s - 4) (28 * num 4 s)) refl _ _ _ e
+  where
+    go : (a : Bool) → ltb (length s) 4 ≡ a → (b : Bool) → ltb 64 (num 4 s) ≡ b → (d : Bool) → ltb (length s - 4) (28 * num 4 s) ≡ d → (x y z : LoadRefusal)
+        → ◌≡◌ {A = Result ℕ LoadRefusal} (pick a (Err x) (pick b (Err y) (pick d (Err z) (Ok (num 4 s))))) (Ok k) → (k ≤ 64) × (4 + 28 * k ≤ length s)
+    go false p false q false r x y z e =
+        let n : num 4 s ≡ k = cc in
+        (omega (arith, ltb-false 64 (num 4 s) q, n), omega (arith, ltb-false (length s) 4 p, ltb-false (length s - 4) (28 * num 4 s) r, n))
+    go false p false q true r x y z e = absurd (let w : ◌≡◌ {A = ℕ} 0 1 = cc in omega arith)
+    go false p true q d r x y z e = absurd (let w : ◌≡◌ {A = ℕ} 0 1 = cc in omega arith)
+    go true p b q d r x y z e = absurd (let w : ◌≡◌ {A = ℕ} 0 1 = cc in omega arith)

@@ -9,9 +9,9 @@ use lib.ListN.{length}
 use lib.Dec.{leb}
 use borrow.Author.Tests.{eq-eqb, ne_eqb, leb-true, leb-false}
 use Rattle.numbers.specs.Pick.{pick}
-use Rattle.garbage.specs.Entries.{Entry, plus, added, added_all, ascending_from, fits, all_fit, judged, Outcome, made, sumTooBig, mapFull}
-use Rattle.garbage.specs.declared.map.Lookup.{Lookup}
-use Rattle.garbage.specs.declared.map.Lookup.TheVariants.{Found, NoEntry, Refused}
+use Rattle.std.specs.Prelude.{Ok, Err, Option, Some, None}
+use Rattle.garbage.specs.declared.map.CountRefusal.TheVariants.{MapFull, SumTooBig}
+use Rattle.garbage.specs.Entries.{Entry, plus, added, added_all, ascending_from, fits, all_fit, judged, Outcome}
 use Rattle.garbage.specs.Lookups.{found}
 use Rattle.garbage.specs.Batch.{afterwards, in_turn}
 use Rattle.garbage.specs.Columns.{total_of, sums_fit}
@@ -151,11 +151,11 @@ turn-made : (e : Entry) (es l : List Entry) → all_fit (added e l) ≡ true →
 unfolding in_turn
 turn-made e es l f k = ap (λ (o : Outcome). afterwards o (in_turn es)) (judged-made (added e l) f k)
 
-turn_full : (e : Entry) (es l : List Entry) → all_fit (added e l) ≡ true → 64 < length (added e l) → in_turn (e ∷ es) l ≡ mapFull
+turn_full : (e : Entry) (es l : List Entry) → all_fit (added e l) ≡ true → 64 < length (added e l) → in_turn (e ∷ es) l ≡ (Err MapFull)
 unfolding in_turn
 turn_full e es l f k = ap (λ (o : Outcome). afterwards o (in_turn es)) (judged_full (added e l) f k)
 
-turn-none : (l : List Entry) → in_turn [] l ≡ made l
+turn-none : (l : List Entry) → in_turn [] l ≡ Ok l
 unfolding in_turn
 turn-none l = refl
 
@@ -172,20 +172,20 @@ turns_judged (e ∷ es) l f k =
     ∙ sym (ap judged (all_cons e es l) ∙ judged_full (added_all es (added e l)) g (omega (arith, long-all es (added e l)))))
 
 -- what the turns made is the whole
-pub turns_made : (es l r : List Entry) → ascending_from 0 l ≡ true → all_fit l ≡ true → length l ≤ 64 → in_turn es l ≡ made r → (r ≡ added_all es l) × (all_fit (added_all es l) ≡ true) × (length (added_all es l) ≤ 64)
+pub turns_made : (es l r : List Entry) → ascending_from 0 l ≡ true → all_fit l ≡ true → length l ≤ 64 → in_turn es l ≡ Ok r → (r ≡ added_all es l) × (all_fit (added_all es l) ≡ true) × (length (added_all es l) ≤ 64)
 unfolding in_turn added_all
 turns_made [] l r t f k h = (cc, f, k)
 turns_made (e ∷ es) l r t f k h = go (judged (added e l)) (made-is (added e l)) (turns_made es (added e l) r (add_in_order e l t)) h
   where
-    go : (o : Outcome) → ((m : List Entry) → o ≡ made m → (m ≡ added e l) × (all_fit (added e l) ≡ true) × (length (added e l) ≤ 64))
-        → (all_fit (added e l) ≡ true → length (added e l) ≤ 64 → in_turn es (added e l) ≡ made r → (r ≡ added_all es (added e l)) × (all_fit (added_all es (added e l)) ≡ true) × (length (added_all es (added e l)) ≤ 64))
-        → afterwards o (in_turn es) ≡ made r
+    go : (o : Outcome) → ((m : List Entry) → o ≡ Ok m → (m ≡ added e l) × (all_fit (added e l) ≡ true) × (length (added e l) ≤ 64))
+        → (all_fit (added e l) ≡ true → length (added e l) ≤ 64 → in_turn es (added e l) ≡ Ok r → (r ≡ added_all es (added e l)) × (all_fit (added_all es (added e l)) ≡ true) × (length (added_all es (added e l)) ≤ 64))
+        → afterwards o (in_turn es) ≡ Ok r
         → (r ≡ added_all es (added e l)) × (all_fit (added_all es (added e l)) ≡ true) × (length (added_all es (added e l)) ≤ 64)
-    go (made m) q ih h =
+    go (Ok m) q ih h =
         let s = q m refl in
         ih s.1 s.2 (ap (in_turn es) (sym s.0) ∙ h)
-    go sumTooBig q ih h = absurd (let z : ◌≡◌ {A = ℕ} 0 1 = cc in omega arith)
-    go mapFull q ih h = absurd (let z : ◌≡◌ {A = ℕ} 0 1 = cc in omega arith)
+    go (Err SumTooBig) q ih h = absurd (let z : ◌≡◌ {A = ℕ} 0 1 = cc in omega arith)
+    go (Err MapFull) q ih h = absurd (let z : ◌≡◌ {A = ℕ} 0 1 = cc in omega arith)
 
 -- ---- an id's own total decides whether an addition fits
 module _ (id : ℕ) (x : Entry) (l : List Entry) where
@@ -275,10 +275,9 @@ sums_are lo (e ∷ es) l t s f =
     (λ q. ap (λ (z : Bool). z && sums_fit es l) (o ∙ q) ∙ sym (unfit_more es (added e l) q))
 
 -- ---- an id's total, by what is found of it
-abbrev pub or_nothing : ℕ → Lookup → Entry
-or_nothing id (Found e) = e
-or_nothing id NoEntry = nothing id
-or_nothing id Refused = nothing id
+abbrev pub or_nothing : ℕ → Option Entry → Entry
+or_nothing id (Some e) = e
+or_nothing id None = nothing id
 
 pub total-is : (id : ℕ) (l : List Entry) → total_of id l ≡ or_nothing id (found id l)
 total-is id [] = total-none id ∙ sym (ap (or_nothing id) (found_in_none id))

@@ -9,8 +9,7 @@ use lib.Dec.{leb}
 use borrow.Author.Tests.{eq-eqb, ne_eqb}
 use Rattle.numbers.specs.Pick.{pick}
 use Rattle.numbers.specs.declared.handle.BlobIndirection.{BlobIndirection}
-use Rattle.garbage.specs.declared.map.Lookup.{Lookup}
-use Rattle.garbage.specs.declared.map.Lookup.TheVariants.{Found, NoEntry, Refused}
+use Rattle.std.specs.Prelude.{Option, Some, None}
 use Rattle.garbage.specs.Entries.{Entry, plus, added, added_all, ascending_from}
 use Rattle.garbage.specs.Lookups.{found}
 use Rattle.garbage.specs.Drops.{one}
@@ -23,26 +22,25 @@ abbrev pub ones : List BlobIndirection → List Entry
 ones ps = map one ps
 
 -- ---- an entry added, and what is found after it
-abbrev onto : Lookup → Entry → Entry
-onto (Found x) e = plus x e
-onto NoEntry e = e
-onto Refused e = e
+abbrev onto : Option Entry → Entry → Entry
+onto (Some x) e = plus x e
+onto None e = e
 
-found-own : (id lo : ℕ) (e : Entry) (l : List Entry) → e.id ≡ id → ascending_from lo l ≡ true → found id (added e l) ≡ Found (onto (found id l) e)
+found-own : (id lo : ℕ) (e : Entry) (l : List Entry) → e.id ≡ id → ascending_from lo l ≡ true → found id (added e l) ≡ Some (onto (found id l) e)
 unfolding ascending_from
-found-own id lo e [] h t = ap (found id) (to_none e) ∙ found_here id e [] h ∙ ap (λ (x : Lookup). Found (onto x e)) (sym (found_in_none id))
+found-own id lo e [] h t = ap (found id) (to_none e) ∙ found_here id e [] h ∙ ap (λ (x : Option Entry). Some (onto x e)) (sym (found_in_none id))
 found-own id lo e (x ∷ l) h t =
     let b = and_r (leb lo x.id) (ascending_from (suc x.id) l) t in
     tri x.id e.id
     (λ p.
     let n : x.id ≡ id → ⊥ = λ z. omega arith in
-    ap (found id) (to_past e x l p) ∙ found-past id x (added e l) n ∙ found-own id (suc x.id) e l h b ∙ ap (λ (y : Lookup). Found (onto y e)) (sym (found-past id x l n)))
+    ap (found id) (to_past e x l p) ∙ found-past id x (added e l) n ∙ found-own id (suc x.id) e l h b ∙ ap (λ (y : Option Entry). Some (onto y e)) (sym (found-past id x l n)))
     (λ p.
     let q : x.id ≡ id = p ∙ h in
-    ap (found id) (to_same e x l p) ∙ found_here id (plus x e) l q ∙ ap (λ (y : Lookup). Found (onto y e)) (sym (found_here id x l q)))
+    ap (found id) (to_same e x l p) ∙ found_here id (plus x e) l q ∙ ap (λ (y : Option Entry). Some (onto y e)) (sym (found_here id x l q)))
     (λ p.
     ap (found id) (to_before e x l p) ∙ found_here id e (x ∷ l) h
-    ∙ ap (λ (y : Lookup). Found (onto y e)) (sym (found-past id x l (λ z. omega arith) ∙ found_above id (suc x.id) l (omega arith) b)))
+    ∙ ap (λ (y : Option Entry). Some (onto y e)) (sym (found-past id x l (λ z. omega arith) ∙ found_above id (suc x.id) l (omega arith) b)))
 
 found-other : (id : ℕ) (e : Entry) (l : List Entry) → (e.id ≡ id → ⊥) → found id (added e l) ≡ found id l
 found-other id e [] h = ap (found id) (to_none e) ∙ found-past id e [] h
@@ -77,10 +75,10 @@ of_append id (p ∷ ps) qs = same_or p.handle.file id
 entry-is : {a a' b b' x x' y y' : ℕ} → a ≡ a' → b ≡ b' → x ≡ x' → y ≡ y' → ◌≡◌ {A = Entry} (record { id = a; frames = b; stated = x; disk = y }) (record { id = a'; frames = b'; stated = x'; disk = y' })
 entry-is a b x y = cc
 
-one_more_lem : (id : ℕ) (p : BlobIndirection) (qs : List BlobIndirection) → p.handle.file ≡ id → Found (onto (tally id qs) (one p)) ≡ tally id (p ∷ qs)
+one_more_lem : (id : ℕ) (p : BlobIndirection) (qs : List BlobIndirection) → p.handle.file ≡ id → Some (onto (tally id qs) (one p)) ≡ tally id (p ∷ qs)
 unfolding stated_in disk_in
-one_more_lem id p [] h = ap Found (entry-is h refl (omega arith) (omega arith))
-one_more_lem id p (q ∷ qs) h = ap Found (entry-is refl (omega arith) (add_comm (q.stated + stated_in qs) p.stated) (add_comm (q.handle.size + disk_in qs) p.handle.size))
+one_more_lem id p [] h = ap Some (entry-is h refl (omega arith) (omega arith))
+one_more_lem id p (q ∷ qs) h = ap Some (entry-is refl (omega arith) (add_comm (q.stated + stated_in qs) p.stated) (add_comm (q.handle.size + disk_in qs) p.handle.size))
 
 none_ascending : ascending_from 0 [] ≡ true
 unfolding ascending_from
@@ -94,7 +92,7 @@ tallied id (p ∷ ps) =
     ∙ same_or p.handle.file id
     (λ h.
     found-own id 0 (one p) l h (order-all (ones ps) [] none_ascending)
-    ∙ ap (λ (x : Lookup). Found (onto x (one p))) (tallied id ps)
+    ∙ ap (λ (x : Option Entry). Some (onto x (one p))) (tallied id ps)
     ∙ one_more_lem id p (of_file id ps) h
     ∙ ap (tally id) (sym (of_own id p ps h)))
     (λ h. found-other id (one p) l h ∙ tallied id ps ∙ ap (tally id) (sym (of_other id p ps h)))

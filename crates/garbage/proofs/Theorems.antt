@@ -7,8 +7,9 @@ use lib.IntN.{pos}
 use lib.Ieee.{binary32, of_int}
 use lib.Ieee.Exact.{HasValue}
 use Rattle.numbers.specs.Pick.{pick}
-use Rattle.garbage.specs.declared.map.Lookup.{Lookup}
-use Rattle.garbage.specs.declared.map.Lookup.TheVariants.{Refused}
+use Rattle.std.specs.Prelude.{Result, Ok, Err, Option}
+use Rattle.garbage.specs.declared.map.MapFull.{MapFull}
+use Rattle.garbage.specs.Entries.{Entry}
 use Rattle.garbage.specs.Maps.{entries_of}
 use Rattle.garbage.specs.Lookups.{found, lookup_of}
 use Rattle.garbage.specs.Verdicts.{dead_by, stale_by}
@@ -37,8 +38,9 @@ own-entry : OwnEntry
 unfolding pick
 own-entry m n id other r s threshold p q e t =
     let l : lookup_of m id ≡ lookup_of n other =
-    ap (λ (b : Bool). pick b (found id (entries_of m)) Refused) p ∙ e ∙ ap (λ (b : Bool). pick b (found other (entries_of n)) Refused) (sym q) in
-    (ap₂ (λ (x : Lookup) (k : ℕ). dead_by x k) l t, ap₂ (λ (x : Lookup) (k : ℕ). stale_by x k threshold) l t)
+    ap (λ (b : Bool). pick b (Ok (found id (entries_of m))) (Err (record {}))) p ∙ ap (λ (x : Option Entry). Ok x) e
+    ∙ ap (λ (b : Bool). pick b (Ok (found other (entries_of n))) (Err (record {}))) (sym q) in
+    (ap₂ (λ (x : Result (Option Entry) MapFull) (k : ℕ). dead_by x k) l t, ap₂ (λ (x : Result (Option Entry) MapFull) (k : ℕ). stale_by x k threshold) l t)
 
 any_spelling_lem : AnySpelling
 unfolding pick

@@ -1,20 +1,27 @@
--- Entries added one after another: each turn, the whole of them, and what is left where one is refused.
-use Prim.Native.Nat.{ℕ, ◌+◌, ◌≤◌, ◌<◌}
-use mathlib.Core.Path.{◌≡◌, refl, sym, ◌∙◌, ap, ap₂, subst}
-use mathlib.Core.List.{List, [], ◌∷◌, ◌++◌}
+-- Entries added one after another: what is known after each turn, and what the turns come to.
+use Prim.Native.Nat.{ℕ, ◌≤◌}
+use mathlib.Core.Path.{◌≡◌, refl, sym, ◌∙◌, ap, subst}
+use mathlib.Core.List.{List, [], ◌∷◌}
 use mathlib.Core.Bool.{true}
 use native.Mathlib.Omega.{arith}
 use lib.ListN.{length}
-use borrow.Author.Tests.{le-leb, lt-leb}
-use Rattle.numbers.specs.Pick.{pick}
-use Rattle.garbage.specs.Entries.{Entry, plus, added, ascending_from, all_fit, judged, Outcome, made, sumTooBig, mapFull}
-use Rattle.garbage.specs.Maps.{Columns, entry_at, rows, with_entries}
+use Rattle.std.specs.Prelude.{Ok, Err, Result}
+use Rattle.garbage.specs.declared.map.CountRefusal.{CountRefusal}
+use Rattle.garbage.specs.declared.map.CountRefusal.TheVariants.{MapFull, SumTooBig}
+use Rattle.garbage.specs.declared.map.FragmentationMap.{FragmentationMap}
+use Rattle.garbage.specs.declared.dropped.Dropped.{Dropped}
+use Rattle.garbage.specs.Entries.{Entry, plus, added, ascending_from, all_fit, judged, Outcome}
+use Rattle.garbage.specs.Maps.{columns_of, map_of, entries_of, holding, empty_map}
+use Rattle.garbage.specs.declared.merged.Merged.{Merged}
+use Rattle.garbage.specs.Drops.{answered}
+use Rattle.garbage.specs.Merges.{merge_answered}
 use Rattle.garbage.specs.Batch.{afterwards, in_turn}
-use Rattle.garbage.specs.Columns.{Whole, Ready, Fine, Turned, State, state, holds, coded, add_of, turn_of, fold_of, settled}
+use Rattle.garbage.specs.Columns.{Whole, Ready, Ends}
 use Rattle.garbage.proofs.Added.{add_ascending, add_longer}
 use Rattle.garbage.proofs.Fits.{made-is}
-use Rattle.garbage.proofs.Slots.{ascending_held}
-use Rattle.garbage.proofs.Holding.{rows_with, with_with, ready_with, rows_snoc, rows_zero}
+use Rattle.garbage.proofs.Slots.{rows-length}
+use Rattle.garbage.proofs.Sound.{rising-order}
+use Rattle.garbage.proofs.Holding.{holds-own, rows_with, holding-again, ready_with}
 
 pub plus-id : (x e : Entry) → x.id ≡ e.id → (plus x e).id ≡ x.id
 plus-id x e h = refl
@@ -22,78 +29,102 @@ plus-id x e h = refl
 pub add_in_order : (e : Entry) (l : List Entry) → ascending_from 0 l ≡ true → ascending_from 0 (added e l) ≡ true
 add_in_order e l t = add_ascending plus plus-id 0 e l (omega arith) t
 
--- ---- one turn
-ready-order : (n : ℕ) (c : Columns) → Ready n c → ascending_from 0 (rows c 0 n) ≡ true
-ready-order n c r = ascending_held n c r.few r.whole ∙ r.rising
+differ : (why : CountRefusal) → ◌≡◌ {A = Result (Unit {0}) CountRefusal} (Ok tt) (Err why) → ⊥
+differ why e = let z : ◌≡◌ {A = ℕ} 0 1 = cc in omega arith
 
-fine-coded : (c : Columns) → Whole c → (l : List Entry) → ascending_from 0 l ≡ true → Fine (coded c (judged l)).n (coded c (judged l)).columns
-fine-coded c w l t = go (judged l) (made-is l)
-  where
-    go : (o : Outcome) → ((m : List Entry) → o ≡ made m → (m ≡ l) × (all_fit l ≡ true) × (length l ≤ 64)) → Fine (coded c o).n (coded c o).columns
-    go (made m) f =
-        let k = f m refl in
-        let r : Ready (length l) (with_entries c l) = ready_with c w l k.2 t k.1 in
-        subst (λ (x : List Entry). Fine (length x) (with_entries c x)) (sym k.0) (record { ready = λ _. r; whole = r.whole })
-    go sumTooBig f = record { ready = λ h. absurd (omega arith); whole = w }
-    go mapFull f = record { ready = λ h. absurd (omega arith); whole = w }
+-- After some turns the map d holds l in the columns of m, and what is left of them comes to the outcome of all.
+pub record Turned (m d : FragmentationMap) (es : List Entry) (o : Outcome) : Type 0 where
+  pub whole : Whole (columns_of m)
+  pub list : List Entry
+  pub is : d ≡ holding m list
+  pub few : length list ≤ 64
+  pub order : ascending_from 0 list ≡ true
+  pub fit : all_fit list ≡ true
+  pub left : in_turn es list ≡ o
 
-module _ (n : ℕ) (c : Columns) (e : Entry) (f : Fine n c) where
-  pub idle : 64 < n → Turned n c e n c
-  unfolding pick
-  idle h = record { is = sym (rw (lt-leb n 64 h)); fine = f }
+pub turned-ready : (m d : FragmentationMap) (es : List Entry) (o : Outcome) → Turned m d es o → Ready d
+turned-ready m d es o t = subst Ready (sym t.is) (ready_with m t.whole t.list t.few t.order t.fit)
 
-  pub turned : n ≤ 64 → (r : ℕ) (d : Columns) → state r d ≡ add_of (state n c) e → Turned n c e r d
-  unfolding pick
-  turned h r d q = record {
-    is = q ∙ sym (rw (le-leb n 64 h));
-    fine = subst (λ (t : State). Fine t.n t.columns) (sym q) (fine-coded c f.whole (added e (rows c 0 n)) (add_in_order e (rows c 0 n) (ready-order n c (f.ready h))));
-  }
+pub turned-first : (m : FragmentationMap) (es : List Entry) → Ready m → Turned m (map_of m.count (columns_of m)) es (in_turn es (entries_of m))
+turned-first m es r = record {
+  whole = r.sound.whole;
+  list = entries_of m;
+  is = holds-own m r.sound.few r.sound.whole;
+  few = omega (arith, rows-length (columns_of m) 0 m.count, r.sound.few);
+  order = rising-order m r.sound;
+  fit = r.fit;
+  left = refl;
+}
 
--- ---- all turns, said on the list of entries
-pub idles : (n : ℕ) (c : Columns) (es : List Entry) → 64 < n → fold_of (state n c) es ≡ state n c
-unfolding fold_of pick
-idles n c [] h = refl
-idles n c (e ∷ es) h = rw (lt-leb n 64 h) (idles n c es h)
+module _ (m d : FragmentationMap) (e : Entry) (es : List Entry) (o : Outcome) (t : Turned m d (e ∷ es) o) where
+  abbrev l : List Entry
+  l = t.list
 
-module _ (c : Columns) where
-  settled-few : (l : List Entry) → length l ≤ 64 → settled c (holds c l) ≡ holds c l
-  unfolding pick
-  settled-few l h = rw (le-leb (length l) 64 h)
+  -- an addition, said of the list
+  said : (r : Result (Unit {0}) CountRefusal) (d' : FragmentationMap) → ◌≡◌ {A = Dropped} (record { answer = r; map = d' }) (answered d (judged (added e (entries_of d))))
+      → ◌≡◌ {A = Dropped} (record { answer = r; map = d' }) (answered (holding m l) (judged (added e l)))
+  said r d' a =
+      a ∙ ap (λ (k : FragmentationMap). answered k (judged (added e (entries_of k)))) t.is
+      ∙ ap (λ (x : List Entry). answered (holding m l) (judged (added e x))) (rows_with (columns_of m) l)
 
-  settled-many : (n : ℕ) (d : Columns) → 64 < n → settled c (state n d) ≡ state n c
-  unfolding pick
-  settled-many n d h = rw (lt-leb n 64 h)
+  left : afterwards (judged (added e l)) (in_turn es) ≡ o
+  unfolding in_turn
+  left = t.left
 
-  -- the turn of an entry, from columns that hold l
-  turn_holds : (l : List Entry) (e : Entry) → length l ≤ 64 → turn_of (holds c l) e ≡ coded (with_entries c l) (judged (added e l))
-  unfolding pick
-  turn_holds l e h = rw (le-leb (length l) 64 h) (ap (λ (m : List Entry). coded (with_entries c l) (judged (added e m))) (rows_with c l))
-
-  pub listed : (es l : List Entry) → length l ≤ 64 → settled c (fold_of (holds c l) es) ≡ coded c (in_turn es l)
-  unfolding fold_of in_turn
-  listed [] l h = settled-few l h
-  listed (e ∷ es) l h = ap (λ (t : State). settled c (fold_of t es)) (turn_holds l e h) ∙ go (judged (added e l)) (made-is (added e l)) (listed es)
+  pub turned-on : (d' : FragmentationMap) → ◌≡◌ {A = Dropped} (record { answer = Ok tt; map = d' }) (answered d (judged (added e (entries_of d)))) → Turned m d' es o
+  turned-on d' a = go (judged (added e l)) (made-is (added e l)) (said (Ok tt) d' a) left
     where
-      go : (o : Outcome) → ((m : List Entry) → o ≡ made m → (m ≡ added e l) × (all_fit (added e l) ≡ true) × (length (added e l) ≤ 64))
-          → ((m : List Entry) → length m ≤ 64 → settled c (fold_of (holds c m) es) ≡ coded c (in_turn es m))
-          → settled c (fold_of (coded (with_entries c l) o) es) ≡ coded c (afterwards o (in_turn es))
-      go (made m) f ih =
-          let k = f m refl in
-          let g : length l ≤ length m = omega (arith, (add_longer plus e l).0, ap length k.0) in
-          ap (λ (d : Columns). settled c (fold_of (state (length m) d) es)) (with_with c l m g) ∙ ih m (omega (arith, k.2, ap length k.0))
-      go sumTooBig f ih = ap (settled c) (idles 66 (with_entries c l) es (omega arith)) ∙ settled-many 66 (with_entries c l) (omega arith)
-      go mapFull f ih = ap (settled c) (idles 65 (with_entries c l) es (omega arith)) ∙ settled-many 65 (with_entries c l) (omega arith)
+      go : (u : Outcome) → ((r : List Entry) → u ≡ Ok r → (r ≡ added e l) × (all_fit (added e l) ≡ true) × (length (added e l) ≤ 64))
+          → ◌≡◌ {A = Dropped} (record { answer = Ok tt; map = d' }) (answered (holding m l) u) → afterwards u (in_turn es) ≡ o → Turned m d' es o
+      go (Ok r) f a q =
+          let k = f r refl in
+          record {
+            whole = t.whole;
+            list = r;
+            is = ap (λ (x : Dropped). x.map) a ∙ holding-again m l r (omega (arith, (add_longer plus e l).0, ap length k.0));
+            few = omega (arith, k.2, ap length k.0);
+            order = ap (ascending_from 0) k.0 ∙ add_in_order e l t.order;
+            fit = ap all_fit k.0 ∙ k.1;
+            left = q;
+          }
+      go (Err SumTooBig) f a q = absurd (differ SumTooBig (ap (λ (x : Dropped). x.answer) a))
+      go (Err MapFull) f a q = absurd (differ MapFull (ap (λ (x : Dropped). x.answer) a))
 
--- one turn more
-fold_end : (t : State) (es : List Entry) (e : Entry) → fold_of t (es ++ (e ∷ [])) ≡ turn_of (fold_of t es) e
-unfolding fold_of
-fold_end t [] e = refl
-fold_end t (x ∷ es) e = fold_end (turn_of t x) es e
+  pub turned-out : (why : CountRefusal) (d' : FragmentationMap) → ◌≡◌ {A = Dropped} (record { answer = Err why; map = d' }) (answered d (judged (added e (entries_of d)))) → Ends m o (Err why) d'
+  turned-out why d' a = go (judged (added e l)) (said (Err why) d' a) left
+    where
+      go : (u : Outcome) → ◌≡◌ {A = Dropped} (record { answer = Err why; map = d' }) (answered (holding m l) u) → afterwards u (in_turn es) ≡ o → Ends m o (Err why) d'
+      go (Ok r) a q = absurd (differ why (sym (ap (λ (x : Dropped). x.answer) a)))
+      go (Err SumTooBig) a q = subst (λ (x : Outcome). Ends m x (Err why) d') q (ap (λ (x : Dropped). x.answer) a)
+      go (Err MapFull) a q = subst (λ (x : Outcome). Ends m x (Err why) d') q (ap (λ (x : Dropped). x.answer) a)
 
-pub fold_more : (t t' t'' : State) (s : Columns) (i : ℕ) (e : Entry) → e ≡ entry_at s i → t' ≡ fold_of t (rows s 0 i) → t'' ≡ turn_of t' e → t'' ≡ fold_of t (rows s 0 (i + 1))
-fold_more t t' t'' s i e p q r =
-    r ∙ ap₂ turn_of q p ∙ sym (fold_end t (rows s 0 i) (entry_at s i)) ∙ ap (fold_of t) (sym (rows_snoc s i))
+pub turned-last : (m d : FragmentationMap) (o : Outcome) → Turned m d [] o → Ends m o (Ok tt) d
+unfolding in_turn
+turned-last m d o t = subst (λ (x : Outcome). Ends m x (Ok tt) d) t.left (refl, t.is)
 
-pub fold_none : (t : State) (s : Columns) → t ≡ fold_of t (rows s 0 0)
-unfolding fold_of
-fold_none t s = sym (ap (fold_of t) (rows_zero s))
+pub turned-list : (m d : FragmentationMap) (es fs : List Entry) (o : Outcome) → es ≡ fs → Turned m d es o → Turned m d fs o
+turned-list m d es fs o e t = subst (λ (x : List Entry). Turned m d x o) e t
+
+pub ends-as : (m : FragmentationMap) (o : Outcome) (r s : Result (Unit {0}) CountRefusal) (d : FragmentationMap) → r ≡ s → Ends m o s d → Ends m o r d
+ends-as m o r s d e h = subst (λ (x : Result (Unit {0}) CountRefusal). Ends m o x d) (sym e) h
+
+-- ---- what a walk of additions gives
+module _ (m d : FragmentationMap) (r : Result (Unit {0}) CountRefusal) where
+  pub ended : (o : Outcome) → Ends m o r d → r ≡ Ok tt → ◌≡◌ {A = Dropped} (record { answer = Ok tt; map = d }) (answered m o)
+  ended (Ok l) h q = ap (λ (k : FragmentationMap). record { answer = Ok tt; map = k }) h.1
+  ended (Err why) h q = absurd (differ why (sym q ∙ h))
+
+  pub refused : (o : Outcome) (why : CountRefusal) → Ends m o r d → r ≡ Err why → ◌≡◌ {A = Dropped} (record { answer = Err why; map = m }) (answered m o)
+  refused (Ok l) why h q = absurd (differ why (sym h.0 ∙ q))
+  refused (Err SumTooBig) why h q = ap (λ (x : Result (Unit {0}) CountRefusal). record { answer = x; map = m }) (sym q ∙ h)
+  refused (Err MapFull) why h q = ap (λ (x : Result (Unit {0}) CountRefusal). record { answer = x; map = m }) (sym q ∙ h)
+
+module _ (s t d : FragmentationMap) (r : Result (Unit {0}) CountRefusal) where
+  pub merges : (o : Outcome) → Ends t o r d → r ≡ Ok tt → ◌≡◌ {A = Merged} (record { answer = Ok tt; source = empty_map; target = d }) (merge_answered s t o)
+  merges (Ok l) h q = ap (λ (k : FragmentationMap). record { answer = Ok tt; source = empty_map; target = k }) h.1
+  merges (Err why) h q = absurd (differ why (sym q ∙ h))
+
+  pub leaves : (o : Outcome) (why : CountRefusal) → Ends t o r d → r ≡ Err why → ◌≡◌ {A = Merged} (record { answer = Err why; source = s; target = t }) (merge_answered s t o)
+  leaves (Ok l) why h q = absurd (differ why (sym h.0 ∙ q))
+  leaves (Err SumTooBig) why h q = ap (λ (x : Result (Unit {0}) CountRefusal). record { answer = x; source = s; target = t }) (sym q ∙ h)
+  leaves (Err MapFull) why h q = ap (λ (x : Result (Unit {0}) CountRefusal). record { answer = x; source = s; target = t }) (sym q ∙ h)

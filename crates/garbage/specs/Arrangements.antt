@@ -1,15 +1,11 @@
 -- Arrangements of drops (demand 3): pointers dealt over empty maps, and these merged in some order and grouping, all by the definitions that the calls promise.
-use Rattle.std.specs.Prelude.{ℕ, List, [], ◌∷◌, ◌++◌, true}
+use Rattle.std.specs.Prelude.{ℕ, List, [], ◌∷◌, ◌++◌, true, Result, Ok, Err}
 use Rattle.numbers.specs.Handle.{indirection_bytes}
 use Rattle.numbers.specs.declared.handle.BlobIndirection.{BlobIndirection}
 use Rattle.garbage.specs.declared.map.FragmentationMap.{FragmentationMap}
-use Rattle.garbage.specs.declared.map.Counted.{Counted}
-use Rattle.garbage.specs.declared.map.Counted.TheVariants as counted
 use Rattle.garbage.specs.declared.merged.Merged.{Merged}
-use Rattle.garbage.specs.declared.record.RecordAnswer.{RecordAnswer}
-use Rattle.garbage.specs.declared.record.RecordAnswer.TheVariants as answer
 use Rattle.garbage.specs.declared.record.RecordDropped.{RecordDropped}
-use Rattle.garbage.specs.declared.stored.Stored.{Stored}
+use Rattle.garbage.specs.declared.stored.StoreRefusal.{StoreRefusal}
 use Rattle.garbage.specs.Maps.{empty_map}
 use Rattle.garbage.specs.Records.{record_of}
 use Rattle.garbage.specs.Merges.{merged_of}
@@ -24,13 +20,9 @@ abbrev pub onward : Ran → (FragmentationMap → Ran) → Ran
 onward (ran m) next = next m
 onward refused next = refused
 
-abbrev pub by_answer : RecordAnswer → FragmentationMap → Ran
-by_answer answer.Done m = ran m
-by_answer (answer.Refused why) m = refused
-
-abbrev pub by_counted : Counted → FragmentationMap → Ran
-by_counted counted.Done m = ran m
-by_counted (counted.Refused why) m = refused
+abbrev pub by_answer : {E : Type 0} → Result (Unit {0}) E → FragmentationMap → Ran
+by_answer (Ok done) m = ran m
+by_answer (Err why) m = refused
 
 -- a pointer dropped as its encoded record, with the mark
 abbrev pub dropping : BlobIndirection → FragmentationMap → Ran
@@ -43,7 +35,7 @@ drop_each (p ∷ ps) m = onward (dropping p m) (drop_each ps)
 
 -- one map merged into another
 abbrev pub merging : FragmentationMap → FragmentationMap → Ran
-merging source target = let r : Merged = merged_of source target in by_counted r.answer r.target
+merging source target = let r : Merged = merged_of source target in by_answer r.answer r.target
 
 -- an arrangement: one map with its drops, or two arrangements whose maps are merged, the second into the first
 pub data Arrangement : Type 0 where
@@ -61,7 +53,7 @@ pointers_of (node a b) = pointers_of a ++ pointers_of b
 
 -- what storing it answers and leaves in a buffer
 pub data Kept : Type 0 where
-  kept : Stored → List ℕ → Kept
+  kept : Result ℕ StoreRefusal → List ℕ → Kept
   nothing : Kept
 
 abbrev pub storing : Ran → List ℕ → Kept

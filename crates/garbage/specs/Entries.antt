@@ -1,6 +1,8 @@
 -- The entries of a map as a list, least id first: entries added up, and what is refused (document 01, "Handles and garbage" and "Refusal numbers").
-use Rattle.std.specs.Prelude.{ℕ, suc, ◌+◌, ◌^◌, List, [], ◌∷◌, Bool, true, ◌&&◌, length, ltb, leb, eqb}
+use Rattle.std.specs.Prelude.{ℕ, suc, ◌+◌, ◌^◌, List, [], ◌∷◌, Bool, true, ◌&&◌, length, ltb, leb, eqb, Result, Ok, Err}
 use Rattle.numbers.specs.Pick.{pick}
+use Rattle.garbage.specs.declared.map.CountRefusal.{CountRefusal}
+use Rattle.garbage.specs.declared.map.CountRefusal.TheVariants.{MapFull, SumTooBig}
 use Rattle.garbage.specs.declared.map.FragmentationEntry.{FragmentationEntry}
 
 abbrev pub Entry : Type 0
@@ -38,10 +40,9 @@ all_fit [] = true
 all_fit (e ∷ l) = fits e && all_fit l
 
 -- what becomes of a map that would hold these entries
-pub data Outcome : Type 0 where
-  made : List Entry → Outcome
-  sumTooBig mapFull : Outcome
+abbrev pub Outcome : Type 0
+Outcome = Result (List Entry) CountRefusal
 
 -- refusals 12 and 11: a total would pass its width, then more than 64 distinct ids would result
 unfoldable pub judged : List Entry → Outcome
-judged l = pick (all_fit l) (pick (leb (length l) 64) (made l) mapFull) sumTooBig
+judged l = pick (all_fit l) (pick (leb (length l) 64) (Ok l) (Err MapFull)) (Err SumTooBig)

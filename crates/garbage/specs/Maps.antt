@@ -15,6 +15,10 @@ columns_of m = record { ids = m.ids; frames = m.frames; stated = m.stated; disk 
 abbrev pub map_of : ℕ → Columns → FragmentationMap
 map_of n c = record { count = n; ids = c.ids; frames = c.frames; stated = c.stated; disk = c.disk }
 
+-- the map that a count and four columns are, lent apart
+abbrev pub map_at : ℕ → List ℕ → List ℕ → List ℕ → List ℕ → FragmentationMap
+map_at count ids frames stated disk = record { count = count; ids = ids; frames = frames; stated = stated; disk = disk }
+
 -- the entry at slot i, and the n entries from i on
 abbrev pub entry_at : Columns → ℕ → Entry
 entry_at c i = record { id = get_or c.ids i 0; frames = get_or c.frames i 0; stated = get_or c.stated i 0; disk = get_or c.disk i 0 }

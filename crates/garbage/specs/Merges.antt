@@ -1,30 +1,27 @@
 -- Maps added up, pruned, and the sum of on-disk bytes (document 01, "Handles and garbage").
-use Rattle.std.specs.Prelude.{ℕ, ◌+◌, ◌^◌, refl, List, [], ◌∷◌, Bool, false, ◌||◌, ◌&&◌, ltb, eqb}
+use Rattle.std.specs.Prelude.{ℕ, ◌+◌, ◌^◌, refl, List, [], ◌∷◌, Bool, false, ◌||◌, ◌&&◌, ltb, eqb, Result, Ok, Err}
 use Rattle.numbers.specs.Pick.{pick}
 use Rattle.garbage.specs.declared.map.FragmentationMap.{FragmentationMap}
+use Rattle.garbage.specs.declared.map.CountRefusal.{CountRefusal}
 use Rattle.garbage.specs.declared.map.CountRefusal.TheVariants.{MapFull, SumTooBig}
-use Rattle.garbage.specs.declared.map.Counted.TheVariants.{Done}
 use Rattle.garbage.specs.declared.merged.Merged.{Merged}
-use Rattle.garbage.specs.declared.pruned.PruneAnswer.TheVariants as prune
 use Rattle.garbage.specs.declared.pruned.Pruned.{Pruned}
-use Rattle.garbage.specs.declared.pruned.StaleBytes.{StaleBytes}
-use Rattle.garbage.specs.declared.pruned.StaleBytes.TheVariants as sum
-use Rattle.garbage.specs.Entries.{Entry, added_all, Outcome, made, sumTooBig, mapFull, judged}
+use Rattle.garbage.specs.Entries.{Entry, added_all, Outcome, judged}
 use Rattle.garbage.specs.Maps.{entries_of, holding, well_formed, empty_map}
-use Rattle.garbage.specs.Refusals.{refuse_count, refuse_prune, refuse_sum}
+use Rattle.garbage.specs.Refusals.{count_number, full_number, refuse}
 
 -- the target holds what was made and the source is empty; refused, both as they came in
 abbrev pub merge_answered : FragmentationMap → FragmentationMap → Outcome → Merged
-merge_answered source target (made l) = record { answer = Done; source = empty_map; target = holding target l }
-merge_answered source target sumTooBig = record { answer = refuse_count 12 SumTooBig refl; source = source; target = target }
-merge_answered source target mapFull = record { answer = refuse_count 11 MapFull refl; source = source; target = target }
+merge_answered source target (Ok l) = record { answer = Ok tt; source = empty_map; target = holding target l }
+merge_answered source target (Err SumTooBig) = record { answer = refuse count_number 12 SumTooBig refl; source = source; target = target }
+merge_answered source target (Err MapFull) = record { answer = refuse count_number 11 MapFull refl; source = source; target = target }
 
 -- a malformed map of the two is 11 before all else; then 12 before 11
 abbrev pub merged_of : FragmentationMap → FragmentationMap → Merged
 merged_of source target =
     pick (well_formed source && well_formed target)
     (merge_answered source target (judged (added_all (entries_of source) (entries_of target))))
-    (record { answer = refuse_count 11 MapFull refl; source = source; target = target })
+    (record { answer = refuse count_number 11 MapFull refl; source = source; target = target })
 
 -- "Pruning keeps only listed ids"
 unfoldable pub listed_in : ℕ → List ℕ → Bool
@@ -38,16 +35,16 @@ kept_of ids (e ∷ l) = pick (listed_in e.id ids) (e ∷ kept_of ids l) (kept_of
 abbrev pub pruned_of : FragmentationMap → List ℕ → Pruned
 pruned_of m ids =
     pick (well_formed m)
-    (record { answer = prune.Done; map = holding m (kept_of ids (entries_of m)) })
-    (record { answer = refuse_prune 11 prune.MapFull refl; map = m })
+    (record { answer = Ok tt; map = holding m (kept_of ids (entries_of m)) })
+    (record { answer = refuse full_number 11 (record {}) refl; map = m })
 
 -- "The sum of on-disk bytes is refused by 12 above 2^64 - 1"
 unfoldable pub disk_sum : List Entry → ℕ
 disk_sum [] = 0
 disk_sum (e ∷ l) = e.disk + disk_sum l
 
-abbrev pub stale_bytes_of : FragmentationMap → StaleBytes
+abbrev pub stale_bytes_of : FragmentationMap → Result ℕ CountRefusal
 stale_bytes_of m =
     pick (well_formed m)
-    (pick (ltb (disk_sum (entries_of m)) (2 ^ 64)) (sum.Sum (disk_sum (entries_of m))) (refuse_sum 12 SumTooBig refl))
-    (refuse_sum 11 MapFull refl)
+    (pick (ltb (disk_sum (entries_of m)) (2 ^ 64)) (Ok (disk_sum (entries_of m))) (refuse count_number 12 SumTooBig refl))
+    (refuse count_number 11 MapFull refl)

@@ -1,19 +1,17 @@
 -- The stored form (document 01, "Stored form: u32 count, then per entry u64 id, u32 frames, two u64; 28 bytes each").
-use Rattle.std.specs.Prelude.{ℕ, zero, suc, ◌+◌, ◌-◌, ◌*◌, refl, List, [], ◌∷◌, ◌++◌, length, drop, ltb, leb}
+use Rattle.std.specs.Prelude.{ℕ, zero, suc, ◌+◌, ◌-◌, ◌*◌, refl, List, [], ◌∷◌, ◌++◌, length, drop, ltb, leb, Result, Ok, Err}
 use Rattle.std.proofs.lemmas.List.Edits.{sets}
 use Rattle.numbers.specs.Pick.{pick}
 use Rattle.numbers.specs.Le.{le, num}
 use Rattle.garbage.specs.declared.map.FragmentationMap.{FragmentationMap}
+use Rattle.garbage.specs.declared.stored.StoreRefusal.{StoreRefusal}
 use Rattle.garbage.specs.declared.stored.StoreRefusal.TheVariants as store
-use Rattle.garbage.specs.declared.stored.Stored.{Stored}
-use Rattle.garbage.specs.declared.stored.Stored.TheVariants as stored
+use Rattle.garbage.specs.declared.stored.LoadRefusal.{LoadRefusal}
 use Rattle.garbage.specs.declared.stored.LoadRefusal.TheVariants as load
-use Rattle.garbage.specs.declared.stored.LoadAnswer.{LoadAnswer}
-use Rattle.garbage.specs.declared.stored.LoadAnswer.TheVariants.{Used}
 use Rattle.garbage.specs.declared.stored.Loaded.{Loaded}
 use Rattle.garbage.specs.Entries.{Entry, joined}
 use Rattle.garbage.specs.Maps.{entries_of, holding, well_formed, empty_map}
-use Rattle.garbage.specs.Refusals.{refuse_store, refuse_load}
+use Rattle.garbage.specs.Refusals.{store_number, load_says, refuse}
 
 -- ---- writing
 unfoldable pub entry_bytes : Entry → List ℕ
@@ -28,11 +26,11 @@ unfoldable pub stored_form : FragmentationMap → List ℕ
 stored_form m = le 4 m.count ++ entries_bytes (entries_of m)
 
 -- 11, then 3 where it does not fit; the bytes used
-unfoldable pub store_answer : FragmentationMap → List ℕ → Stored
+unfoldable pub store_answer : FragmentationMap → List ℕ → Result ℕ StoreRefusal
 store_answer m buf =
     pick (well_formed m)
-    (pick (leb (length (stored_form m)) (length buf)) (stored.Used (length (stored_form m))) (refuse_store 3 store.NoRoom refl))
-    (refuse_store 11 store.MapFull refl)
+    (pick (leb (length (stored_form m)) (length buf)) (Ok (length (stored_form m))) (refuse store_number 3 store.NoRoom refl))
+    (refuse store_number 11 store.MapFull refl)
 
 -- at the front; refused, no byte altered
 unfoldable pub store_bytes : FragmentationMap → List ℕ → List ℕ
@@ -58,23 +56,22 @@ unfoldable pub instead_all : List Entry → List Entry → List Entry
 instead_all [] l = l
 instead_all (e ∷ es) l = instead_all es (instead e l)
 
--- refused: an empty map
-abbrev pub none_loaded : LoadAnswer → Loaded
-none_loaded answer = record { answer = answer; map = empty_map }
+-- how many entries there are: 7 for the count with where, needed and present, then 11, then 7 for entries
+unfoldable pub stored_count : List ℕ → Result ℕ LoadRefusal
+stored_count s =
+    pick (ltb (length s) 4) (cut 0 4 (length s))
+    (pick (ltb 64 (num 4 s)) (refuse load_says (11 ∷ []) load.MapFull refl)
+    (pick (ltb (length s - 4) (28 * num 4 s)) (cut 4 (28 * num 4 s) (length s - 4))
+    (Ok (num 4 s))))
+  where
+    cut : ℕ → ℕ → ℕ → Result ℕ LoadRefusal
+    cut at needed present = refuse load_says (7 ∷ at ∷ needed ∷ present ∷ []) (load.CutShort (record { at = at; needed = needed; present = present })) refl
 
--- 7 with where, needed and present
-abbrev pub cut_loaded : ℕ → ℕ → ℕ → Loaded
-cut_loaded at needed present =
-    none_loaded (refuse_load (7 ∷ at ∷ needed ∷ present ∷ []) (load.CutShort (record { at = at; needed = needed; present = present })) refl)
+-- k entries: the bytes used, and a map that holds them; refused, an empty map
+abbrev pub loaded_by : List ℕ → Result ℕ LoadRefusal → Loaded
+loaded_by s (Ok k) = record { answer = Ok (4 + 28 * k); map = holding empty_map (instead_all (entries_in k (drop 4 s)) []) }
+loaded_by s (Err why) = record { answer = Err why; map = empty_map }
 
--- k entries: the bytes used, and a map that holds them
-abbrev pub some_loaded : ℕ → List ℕ → Loaded
-some_loaded k s = record { answer = Used (4 + 28 * k); map = holding empty_map (instead_all (entries_in k (drop 4 s)) []) }
-
--- 7 for the count, then 11, then 7 for entries; what follows is left
-unfoldable pub load_of : List ℕ → Loaded
-load_of s =
-    pick (ltb (length s) 4) (cut_loaded 0 4 (length s))
-    (pick (ltb 64 (num 4 s)) (none_loaded (refuse_load (11 ∷ []) load.MapFull refl))
-    (pick (ltb (length s - 4) (28 * num 4 s)) (cut_loaded 4 (28 * num 4 s) (length s - 4))
-    (some_loaded (num 4 s) s)))
+-- what follows is left
+abbrev pub load_of : List ℕ → Loaded
+load_of s = loaded_by s (stored_count s)

@@ -1,9 +1,8 @@
 -- Totals over dropped pointers (document 01, "the map's rule: totals over the listed drops").
-use Rattle.std.specs.Prelude.{ℕ, ◌+◌, ◌<◌, ◌^◌, List, [], ◌∷◌, length, eqb}
+use Rattle.std.specs.Prelude.{ℕ, ◌+◌, ◌<◌, ◌^◌, List, [], ◌∷◌, length, eqb, Option, Some, None}
 use Rattle.numbers.specs.Pick.{pick}
 use Rattle.numbers.specs.declared.handle.BlobIndirection.{BlobIndirection}
-use Rattle.garbage.specs.declared.map.Lookup.{Lookup}
-use Rattle.garbage.specs.declared.map.Lookup.TheVariants.{Found, NoEntry}
+use Rattle.garbage.specs.Entries.{Entry}
 
 -- the pointers of one file
 unfoldable pub of_file : ℕ → List BlobIndirection → List BlobIndirection
@@ -19,9 +18,9 @@ disk_in [] = 0
 disk_in (p ∷ ps) = p.handle.size + disk_in ps
 
 -- the entry that pointers of one file make: their count and two sums; none where there are none
-abbrev pub tally : ℕ → List BlobIndirection → Lookup
-tally id [] = NoEntry
-tally id (p ∷ ps) = Found (record { id = id; frames = length (p ∷ ps); stated = stated_in (p ∷ ps); disk = disk_in (p ∷ ps) })
+abbrev pub tally : ℕ → List BlobIndirection → Option Entry
+tally id [] = None
+tally id (p ∷ ps) = Some (record { id = id; frames = length (p ∷ ps); stated = stated_in (p ∷ ps); disk = disk_in (p ∷ ps) })
 
 -- what the types say of a pointer's numbers
 abbrev pub Typed : BlobIndirection → Type 0

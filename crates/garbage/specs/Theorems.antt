@@ -1,6 +1,6 @@
 -- What holds of the map and the verdicts, of the very definitions that the calls promise. The record at the end has it all; its value is in
 -- proofs/Theorems.antt.
-use Rattle.std.specs.Prelude.{ℕ, ◌*◌, ◌^◌, ◌<◌, ◌≡◌, true, false, length, get_or, pos, Float}
+use Rattle.std.specs.Prelude.{ℕ, ◌*◌, ◌^◌, ◌<◌, ◌≡◌, true, false, length, get_or, pos, Float, Ok}
 use mathlib.Core.List.{List, [], ◌∷◌, ◌++◌, Permᴰ}
 use Rattle.std.specs.Float.{binary32}
 use Rattle.std.specs.Float.Ieee.{of_int}
@@ -8,10 +8,9 @@ use Rattle.std.specs.Float.Ieee.Exact.{HasValue}
 use Rattle.numbers.specs.Pick.{pick}
 use Rattle.numbers.specs.Handle.{indirection_bytes, indirection_of}
 use Rattle.numbers.specs.declared.handle.BlobIndirection.{BlobIndirection}
-use Rattle.numbers.specs.declared.handle.ReadIndirection.TheVariants.{Indirection}
+use Rattle.numbers.specs.Reading.{got}
 use Rattle.frames.specs.declared.writer.Report.{Report}
 use Rattle.garbage.specs.declared.map.FragmentationMap.{FragmentationMap}
-use Rattle.garbage.specs.declared.stored.LoadAnswer.TheVariants.{Used}
 use Rattle.garbage.specs.declared.verdict.DeadVerdict.TheVariants.{Dead, Wanted, NoEntry}
 use Rattle.garbage.specs.Entries.{all_fit}
 use Rattle.garbage.specs.Maps.{columns_of, entries_of, well_formed, empty_map, holding}
@@ -32,7 +31,7 @@ use Rattle.garbage.specs.Example.{three_and_none, three}
 abbrev pub ReadsBack : Type 0
 ReadsBack =
     (m : FragmentationMap) (rest : List ℕ) → well_formed m ≡ true → all_fit (entries_of m) ≡ true → ((i : ℕ) → i < m.count → get_or m.ids i 0 < 2 ^ 64)
-    → load_of (stored_form m ++ rest) ≡ record { answer = Used (length (stored_form m)); map = holding empty_map (entries_of m) }
+    → load_of (stored_form m ++ rest) ≡ record { answer = Ok (length (stored_form m)); map = holding empty_map (entries_of m) }
 
 -- once over the number of dropped bits: a u64 of any size, rounded in integers and scaled, is the value of IEEE 754's own rounding
 abbrev pub Rounds : Type 0
@@ -55,12 +54,12 @@ OwnEntry =
 -- the map's rule: after accepted drops from an empty map each id's entry is the count and the two sums over the drops of that id, and no other id has one
 abbrev pub CountsDrops : Type 0
 CountsDrops =
-    (ps : List BlobIndirection) (m : FragmentationMap) (id : ℕ) → AllTyped ps → drop_each ps empty_map ≡ ran m → lookup_of m id ≡ tally id (of_file id ps)
+    (ps : List BlobIndirection) (m : FragmentationMap) (id : ℕ) → AllTyped ps → drop_each ps empty_map ≡ ran m → lookup_of m id ≡ Ok (tally id (of_file id ps))
 
 -- any record that decodes to a pointer counts as the shortest one does
 abbrev pub AnySpelling : Type 0
 AnySpelling =
-    (m : FragmentationMap) (p : BlobIndirection) (bytes : List ℕ) (used : ℕ) → Typed p → indirection_of 0 bytes ≡ Indirection p used
+    (m : FragmentationMap) (p : BlobIndirection) (bytes : List ℕ) (used : ℕ) → Typed p → indirection_of 0 bytes ≡ got p used
     → record_of m true bytes ≡ record_of m true (indirection_bytes p)
 
 -- a batch into a well-formed map is its drops made one after another

@@ -1,77 +1,34 @@
 // A batch of dropped pointers, one lent list walked once: taken whole, or refused with its first refusal.
-ghost use Rattle.std.specs.Prelude.{◌≡◌, ℕ, ◌<◌, ◌≤◌, take};
-ghost use Rattle.garbage.specs.Maps.{Columns, columns_of};
+ghost use Rattle.std.specs.Prelude.{◌≡◌, Err, take, map};
+ghost use Rattle.garbage.specs.Maps.{entries_of};
 ghost use Rattle.garbage.specs.Drops.{one};
-ghost use Rattle.garbage.specs.Batch.{batch_of};
-ghost use Rattle.garbage.specs.Columns.{Fine, Turned, begin_of, finish_of};
+ghost use Rattle.garbage.specs.Batch.{in_turn, batch_of};
+ghost use Rattle.garbage.specs.Columns.{held, Same, Ready, Ends};
 
-use crate::dropped::{Dropped, one_of, told};
-use crate::map::{CountRefusal, Counted, FragmentationMap, well_formed};
-use crate::merged::turn;
-use numbers::bytes::lesser;
+use crate::dropped::{Dropped, one_of};
+use crate::lent::{Lent, told};
+use crate::map::{CountRefusal, FragmentationMap};
 use numbers::handle::BlobIndirection;
 
-// One pointer more. `n` is the count, or a refusal, after which nothing is done.
-fn step<'a>(
-    n: usize,
-    ids: &'a mut [u64; 64],
-    frames: &'a mut [u32; 64],
-    stated: &'a mut [u64; 64],
-    disk: &'a mut [u64; 64],
-    p: BlobIndirection,
-) -> usize
-    requires { Fine n (record { ids = ids.old; frames = frames.old; stated = stated.old; disk = disk.old }) }
-    ensures { Turned n (record { ids = ids.old; frames = frames.old; stated = stated.old; disk = disk.old }) (one p)
-        result (record { ids = ids.new; frames = frames.new; stated = stated.new; disk = disk.new }) }
-{
-    let e = one_of(p);
-    turn(n, ids, frames, stated, disk, e)
+impl<'a> Lent<'a> {
+    // The pointers one after another, up to the first refusal.
+    fn drop_each(&mut self, pointers: &[BlobIndirection]) -> Result<(), CountRefusal>
+        requires { Ready (held self.old) }
+        ensures same { Same self.old self.new }
+        ensures ends { Ends (held self.old) (in_turn (map one pointers.now) (entries_of (held self.old))) result (held self.new) }
+    {
+        for p in pointers {
+            self.add(one_of(*p))?;
+        }
+        Ok(())
+    }
 }
 
-// The count that a batch starts from: 65 for a malformed map.
-fn begin(m: FragmentationMap) -> usize
-    ensures { (result ≡ begin_of m) × Fine result (columns_of m) }
+fn refused(m: FragmentationMap, why: CountRefusal) -> Dropped
+    ensures { result ≡ record { answer = Err why; map = m } }
 {
-    let ids = m.ids;
-    let frames = m.frames;
-    let stated = m.stated;
-    let disk = m.disk;
-    let k = told(ids, frames, stated, disk);
-    if well_formed(m) { m.count } else { 65 }
-}
-
-// What a batch gives: all of it, or the map as it came in.
-fn finish(
-    m: FragmentationMap,
-    n: usize,
-    ids: [u64; 64],
-    frames: [u32; 64],
-    stated: [u64; 64],
-    disk: [u64; 64],
-) -> Dropped
-    ensures { result ≡ finish_of m n (record { ids = ids; frames = frames; stated = stated; disk = disk }) }
-{
-    if n <= 64 {
-        let w = FragmentationMap {
-            count: n,
-            ids,
-            frames,
-            stated,
-            disk,
-        };
-        return Dropped {
-            answer: Counted::Done,
-            map: w,
-        };
-    }
-    if n == 65 {
-        return Dropped {
-            answer: Counted::Refused(CountRefusal::MapFull),
-            map: m,
-        };
-    }
     Dropped {
-        answer: Counted::Refused(CountRefusal::SumTooBig),
+        answer: Err(why),
         map: m,
     }
 }
@@ -79,37 +36,30 @@ fn finish(
 pub fn drop_all(m: FragmentationMap, pointers: &[BlobIndirection]) -> Dropped
     ensures { result ≡ batch_of m pointers.now }
 {
-    let mut n = begin(m);
-    let mut ids = m.ids;
-    let mut frames = m.frames;
-    let mut stated = m.stated;
-    let mut disk = m.disk;
-    let mut i = 0;
-    while i < pointers.len() {
-        n = step(
-            n,
-            &mut ids,
-            &mut frames,
-            &mut stated,
-            &mut disk,
-            pointers[i],
-        );
-        i += 1;
+    if !m.well_formed() {
+        return refused(m, CountRefusal::MapFull);
     }
-    finish(m, n, ids, frames, stated, disk)
-}
-
-// The first `n` of a list, lent.
-fn drop_first(m: FragmentationMap, list: [BlobIndirection; 1024], n: usize) -> Dropped
-    requires { n ≤ 1024 }
-    ensures { result ≡ batch_of m (take n list) }
-{
-    drop_all(m, &list[..n])
+    told(m.ids, m.frames, m.stated, m.disk);
+    let mut map = m;
+    let mut lent = Lent {
+        count: &mut map.count,
+        ids: &mut map.ids,
+        frames: &mut map.frames,
+        stated: &mut map.stated,
+        disk: &mut map.disk,
+    };
+    match lent.drop_each(pointers) {
+        Ok(()) => Dropped {
+            answer: Ok(()),
+            map,
+        },
+        Err(why) => refused(m, why),
+    }
 }
 
 // A batch for a caller with no slice to lend: the first `n` pointers of a list, or all that it has.
 pub fn drop_listed(m: FragmentationMap, list: [BlobIndirection; 1024], n: usize) -> Dropped
     ensures { result ≡ batch_of m (take n list) }
 {
-    drop_first(m, list, lesser(n, 1024))
+    drop_all(m, &list[..n.min(1024)])
 }

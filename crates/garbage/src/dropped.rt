@@ -1,16 +1,16 @@
 // A dropped pointer counted in the map: over lent columns, and by value.
-ghost use Rattle.std.specs.Prelude.{◌≡◌, ℕ, ◌+◌, ◌<◌, ◌≤◌, length};
-ghost use Rattle.garbage.specs.Maps.{Columns, map_of};
+ghost use Rattle.std.specs.Prelude.{◌≡◌};
+ghost use Rattle.garbage.specs.Maps.{map_at};
 ghost use Rattle.garbage.specs.Drops.{dropped_of, one};
-ghost use Rattle.garbage.specs.Columns.{Told};
 
-use crate::columns::{add, ascending};
-use crate::map::{CountRefusal, Counted, FragmentationEntry, FragmentationMap};
+use crate::lent::Lent;
+use crate::map::{CountRefusal, FragmentationEntry, FragmentationMap};
 use numbers::handle::BlobIndirection;
 
-#[derive(Clone, Copy)]
+// Refused, the map is as it came in.
+#[derive(Clone, Copy, PartialEq, Eq)]
 pub struct Dropped {
-    pub answer: Counted,
+    pub answer: Result<(), CountRefusal>,
     pub map: FragmentationMap,
 }
 
@@ -18,23 +18,15 @@ pub struct Dropped {
 pub(crate) fn one_of(p: BlobIndirection) -> FragmentationEntry
     ensures { result ≡ one p }
 {
-    let h = p.handle;
     FragmentationEntry {
-        id: h.file,
+        id: p.handle.file,
         frames: 1,
         stated: p.stated as u64,
-        disk: h.size as u64,
+        disk: p.handle.size as u64,
     }
 }
 
-// What the arrays' types tell: their lengths, and that no total passes its width.
-pub(crate) fn told(ids: [u64; 64], frames: [u32; 64], stated: [u64; 64], disk: [u64; 64]) -> usize
-    ensures { Told (record { ids = ids; frames = frames; stated = stated; disk = disk }) }
-{
-    64
-}
-
-// A drop into any map whose count and columns are lent.
+// A drop into any map whose count and columns are lent, apart, as C's `pd_drop` lends them.
 pub fn drop_into(
     count: &mut usize,
     ids: &mut [u64; 64],
@@ -42,47 +34,43 @@ pub fn drop_into(
     stated: &mut [u64; 64],
     disk: &mut [u64; 64],
     p: BlobIndirection,
-) -> Counted
-    ensures { record { answer = result; map = map_of count.new (record { ids = ids.new; frames = frames.new; stated = stated.new; disk = disk.new }) }
-        ≡ dropped_of (map_of count.old (record { ids = ids.old; frames = frames.old; stated = stated.old; disk = disk.old })) p }
+) -> Result<(), CountRefusal>
+    ensures { record { answer = result; map = map_at count.new ids.new frames.new stated.new disk.new }
+        ≡ dropped_of (map_at count.old ids.old frames.old stated.old disk.old) p }
 {
-    let n = *count;
-    if 64 < n {
-        return Counted::Refused(CountRefusal::MapFull);
+    let mut lent = Lent {
+        count,
+        ids,
+        frames,
+        stated,
+        disk,
+    };
+    if lent.well_formed() {
+        return lent.add(one_of(p));
     }
-    let k = told(*ids, *frames, *stated, *disk);
-    if ascending(ids, n) {
-        let r = add(n, ids, frames, stated, disk, one_of(p));
-        if r <= 64 {
-            *count = r;
-            return Counted::Done;
-        }
-        if r == 65 {
-            return Counted::Refused(CountRefusal::MapFull);
-        }
-        Counted::Refused(CountRefusal::SumTooBig)
-    } else {
-        Counted::Refused(CountRefusal::MapFull)
-    }
+    Err(CountRefusal::MapFull)
 }
 
 impl FragmentationMap {
+    // A drop where the map stands; refused, nothing changes.
+    pub(crate) fn count_drop(&mut self, p: BlobIndirection) -> Result<(), CountRefusal>
+        ensures { record { answer = result; map = self.new } ≡ dropped_of self.old p }
+    {
+        drop_into(
+            &mut self.count,
+            &mut self.ids,
+            &mut self.frames,
+            &mut self.stated,
+            &mut self.disk,
+            p,
+        )
+    }
+
     pub fn drop(self, p: BlobIndirection) -> Dropped
         ensures { result ≡ dropped_of self p }
     {
-        let mut count = self.count;
-        let mut ids = self.ids;
-        let mut frames = self.frames;
-        let mut stated = self.stated;
-        let mut disk = self.disk;
-        let answer = drop_into(&mut count, &mut ids, &mut frames, &mut stated, &mut disk, p);
-        let map = FragmentationMap {
-            count,
-            ids,
-            frames,
-            stated,
-            disk,
-        };
+        let mut map = self;
+        let answer = map.count_drop(p);
         Dropped { answer, map }
     }
 }

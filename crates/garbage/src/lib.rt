@@ -2,8 +2,9 @@
 #![tactic(auto)]
 
 pub mod batch;
-mod columns;
 pub mod dropped;
+mod ids;
+mod lent;
 pub mod map;
 pub mod merged;
 pub mod pruned;

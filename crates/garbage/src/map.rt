@@ -1,11 +1,12 @@
 // The map by value: at most 64 file ids, ascending, in four columns.
-ghost use Rattle.std.specs.Prelude.{◌≡◌};
-ghost use Rattle.garbage.specs.Maps.{Columns, empty_map, map_of, well_formed};
+ghost use Rattle.std.specs.Prelude.{◌≡◌, ◌<◌, Some, None, Option};
+ghost use Rattle.numbers.specs.Pick.{pick};
+ghost use Rattle.garbage.specs.Entries.{plus, fits};
+ghost use Rattle.garbage.specs.Maps.{columns_of, empty_map, entry_at, well_formed};
 ghost use Rattle.garbage.specs.Lookups.{lookup_of};
-ghost use Rattle.garbage.specs.Refusals.{count_number, lookup_number};
+ghost use Rattle.garbage.specs.Refusals.{count_number, full_number};
 
-use crate::columns::{ascending, entry_at, place};
-use crate::dropped::told;
+use crate::ids::{in_order, place};
 
 // What was dropped of one file: frames, stated bytes, on-disk value bytes.
 #[derive(Clone, Copy)]
@@ -16,7 +17,8 @@ pub struct FragmentationEntry {
     pub disk: u64,
 }
 
-#[derive(Clone, Copy)]
+// Four columns and a count in fixed memory, as C lends them. One with a count above 64, or with ids that do not ascend, can come in: it is malformed.
+#[derive(Clone, Copy, PartialEq, Eq)]
 pub struct FragmentationMap {
     pub count: usize,
     pub ids: [u64; 64],
@@ -25,25 +27,24 @@ pub struct FragmentationMap {
     pub disk: [u64; 64],
 }
 
-// Why nothing was added up: the map is malformed or would hold more than 64 ids, or a total would pass its width.
+// The map is malformed.
 #[derive(Clone, Copy)]
+pub struct MapFull;
+
+// Why nothing was added up: the map is malformed or would hold more than 64 ids, or a total would pass its width.
+#[derive(Clone, Copy, PartialEq, Eq)]
 pub enum CountRefusal {
     MapFull,
     SumTooBig,
 }
 
-#[derive(Clone, Copy)]
-pub enum Counted {
-    Done,
-    Refused(CountRefusal),
-}
-
-// What a map holds of an id. Refused: the map is malformed.
-#[derive(Clone, Copy)]
-pub enum Lookup {
-    Found(FragmentationEntry),
-    NoEntry,
-    Refused,
+impl MapFull {
+    // Document 01's number.
+    pub fn number(self) -> u64
+        ensures { result ≡ full_number self }
+    {
+        11
+    }
 }
 
 impl CountRefusal {
@@ -58,56 +59,18 @@ impl CountRefusal {
     }
 }
 
-impl Lookup {
-    // Document 01's number; 0 where nothing is refused.
-    pub fn number(self) -> u64
-        ensures { result ≡ lookup_number self }
+impl FragmentationEntry {
+    // The totals of two entries of one id, where none passes its width.
+    pub(crate) fn plus(self, e: FragmentationEntry) -> Option<FragmentationEntry>
+        ensures { result ≡ pick (fits (plus self e)) (Some (plus self e)) None }
     {
-        match self {
-            Lookup::Found(_) => 0,
-            Lookup::NoEntry => 0,
-            Lookup::Refused => 11,
-        }
+        Some(FragmentationEntry {
+            id: self.id,
+            frames: self.frames.checked_add(e.frames)?,
+            stated: self.stated.checked_add(e.stated)?,
+            disk: self.disk.checked_add(e.disk)?,
+        })
     }
-}
-
-// Whether a map is well formed.
-pub(crate) fn well_formed(m: FragmentationMap) -> bool
-    ensures { result ≡ well_formed m }
-{
-    let ids = m.ids;
-    let n = m.count;
-    if 64 < n {
-        return false;
-    }
-    ascending(&ids, n)
-}
-
-// What any map whose columns are lent holds of an id.
-fn find<'a>(
-    count: usize,
-    ids: &'a [u64; 64],
-    frames: &'a [u32; 64],
-    stated: &'a [u64; 64],
-    disk: &'a [u64; 64],
-    id: u64,
-) -> Lookup
-    ensures { result ≡ lookup_of (map_of count (record { ids = ids.now; frames = frames.now; stated = stated.now; disk = disk.now })) id }
-{
-    if 64 < count {
-        return Lookup::Refused;
-    }
-    let k = told(*ids, *frames, *stated, *disk);
-    if ascending(ids, count) {
-        let i = place(ids, count, id);
-        if i < count {
-            if ids[i] == id {
-                return Lookup::Found(entry_at(ids, frames, stated, disk, i));
-            }
-        }
-        return Lookup::NoEntry;
-    }
-    Lookup::Refused
 }
 
 impl FragmentationMap {
@@ -123,16 +86,35 @@ impl FragmentationMap {
         }
     }
 
-    pub fn get(self, id: u64) -> Lookup
+    pub(crate) fn well_formed(&self) -> bool
+        ensures { result ≡ well_formed self.now }
+    {
+        in_order(self.count, &self.ids)
+    }
+
+    // The entry at slot `i`.
+    pub(crate) fn entry(&self, i: usize) -> FragmentationEntry
+        requires { i < 64 }
+        ensures { result ≡ entry_at (columns_of self.now) i }
+    {
+        FragmentationEntry {
+            id: self.ids[i],
+            frames: self.frames[i],
+            stated: self.stated[i],
+            disk: self.disk[i],
+        }
+    }
+
+    // What the map holds of an id.
+    pub fn get(self, id: u64) -> Result<Option<FragmentationEntry>, MapFull>
         ensures { result ≡ lookup_of self id }
     {
-        find(
-            self.count,
-            &self.ids,
-            &self.frames,
-            &self.stated,
-            &self.disk,
-            id,
-        )
+        if !self.well_formed() {
+            return Err(MapFull);
+        }
+        match place(&self.ids[..self.count], id) {
+            Ok(i) => Ok(Some(self.entry(i))),
+            Err(_) => Ok(None),
+        }
     }
 }

@@ -1,148 +1,72 @@
 // A map pruned to listed ids, and the sum of its on-disk bytes.
-ghost use Rattle.std.specs.Prelude.{◌≡◌, ℕ, ◌+◌, ◌<◌, ◌≤◌};
-ghost use Rattle.garbage.specs.Maps.{Columns, columns_of, entries_of};
-ghost use Rattle.garbage.specs.Columns.{Whole, kept_in, state, holds};
-ghost use Rattle.garbage.specs.Merges.{listed_in, kept_of, pruned_of, stale_bytes_of};
-ghost use Rattle.garbage.specs.Refusals.{prune_number};
+ghost use Rattle.std.specs.Prelude.{◌≡◌, ◌≤◌};
+ghost use Rattle.garbage.specs.Maps.{Columns, columns_of, entries_of, map_of, holding};
+ghost use Rattle.garbage.specs.Columns.{held, Same, Whole};
+ghost use Rattle.garbage.specs.Merges.{kept_of, pruned_of, stale_bytes_of};
 
-use crate::columns::{MOST, entry_at, write};
-use crate::map::{CountRefusal, FragmentationEntry, FragmentationMap, well_formed};
+use crate::lent::Lent;
+use crate::map::{CountRefusal, FragmentationMap, MapFull};
 
-// MapFull: the map is malformed.
-#[derive(Clone, Copy)]
-pub enum PruneAnswer {
-    Done,
-    MapFull,
-}
-
+// Refused, the map is as it came in.
 #[derive(Clone, Copy)]
 pub struct Pruned {
-    pub answer: PruneAnswer,
+    pub answer: Result<(), MapFull>,
     pub map: FragmentationMap,
 }
 
-#[derive(Clone, Copy)]
-pub enum StaleBytes {
-    Sum(u64),
-    Refused(CountRefusal),
-}
-
-impl PruneAnswer {
-    // Document 01's number; 0 where nothing is refused.
-    pub fn number(self) -> u64
-        ensures { result ≡ prune_number self }
+impl<'a> Lent<'a> {
+    // The entries of listed ids, from a map in whose columns they may stand.
+    fn keep(&mut self, map: &FragmentationMap, listing: &[u64])
+        requires { (map.now.count ≤ 64) × Whole (columns_of map.now) × (held self.old ≡ map_of 0 (columns_of map.now)) }
+        ensures same { Same self.old self.new }
+        ensures is { held self.new ≡ holding map.now (kept_of listing.now (entries_of map.now)) }
     {
-        match self {
-            PruneAnswer::Done => 0,
-            PruneAnswer::MapFull => 11,
+        for i in 0..map.count {
+            let e = map.entry(i);
+            if listing.contains(&e.id) {
+                self.push(e);
+            }
         }
     }
-}
-
-fn listed(ids: &[u64], id: u64) -> bool
-    ensures { result ≡ listed_in id ids.now }
-{
-    let mut i = 0;
-    while i < ids.len() {
-        if ids[i] == id {
-            return true;
-        }
-        i += 1;
-    }
-    false
-}
-
-// An entry kept past the `n` kept before it, where its id is listed: how many are kept now.
-fn keep(
-    listing: &[u64],
-    n: usize,
-    ids: &mut [u64; 64],
-    frames: &mut [u32; 64],
-    stated: &mut [u64; 64],
-    disk: &mut [u64; 64],
-    e: FragmentationEntry,
-) -> usize
-    requires { n < 64 }
-    ensures { state result (record { ids = ids.new; frames = frames.new; stated = stated.new; disk = disk.new })
-        ≡ kept_in (listed_in e.id listing.now) (state n (record { ids = ids.old; frames = frames.old; stated = stated.old; disk = disk.old })) e }
-{
-    if listed(listing, e.id) {
-        write(n, ids, frames, stated, disk, e);
-        return n + 1;
-    }
-    n
-}
-
-// The entries of listed ids moved to the front: how many they are.
-fn keep_all(
-    m: FragmentationMap,
-    listing: &[u64],
-    ids: &mut [u64; 64],
-    frames: &mut [u32; 64],
-    stated: &mut [u64; 64],
-    disk: &mut [u64; 64],
-) -> usize
-    requires { (m.count ≤ 64) × Whole (columns_of m) × (record { ids = ids.old; frames = frames.old; stated = stated.old; disk = disk.old } ≡ columns_of m) }
-    ensures { state result (record { ids = ids.new; frames = frames.new; stated = stated.new; disk = disk.new })
-        ≡ holds (columns_of m) (kept_of listing.now (entries_of m)) }
-{
-    let mut n = 0;
-    let mut i = 0;
-    while i < m.count {
-        let e = entry_at(&m.ids, &m.frames, &m.stated, &m.disk, i);
-        n = keep(listing, n, ids, frames, stated, disk, e);
-        i += 1;
-    }
-    n
 }
 
 impl FragmentationMap {
     pub fn prune(self, listing: &[u64]) -> Pruned
         ensures { result ≡ pruned_of self listing.now }
     {
-        if well_formed(self) {
-            let mut ids = self.ids;
-            let mut frames = self.frames;
-            let mut stated = self.stated;
-            let mut disk = self.disk;
-            let count = keep_all(self, listing, &mut ids, &mut frames, &mut stated, &mut disk);
-            let map = FragmentationMap {
-                count,
-                ids,
-                frames,
-                stated,
-                disk,
-            };
+        if !self.well_formed() {
             return Pruned {
-                answer: PruneAnswer::Done,
-                map,
+                answer: Err(MapFull),
+                map: self,
             };
         }
+        let mut map = self;
+        map.count = 0;
+        Lent {
+            count: &mut map.count,
+            ids: &mut map.ids,
+            frames: &mut map.frames,
+            stated: &mut map.stated,
+            disk: &mut map.disk,
+        }
+        .keep(&self, listing);
         Pruned {
-            answer: PruneAnswer::MapFull,
-            map: self,
+            answer: Ok(()),
+            map,
         }
     }
 
     // The bytes that could be freed from disk.
-    pub fn stale_bytes(self) -> StaleBytes
+    pub fn stale_bytes(self) -> Result<u64, CountRefusal>
         ensures { result ≡ stale_bytes_of self }
     {
-        if well_formed(self) {
-            let n = self.count;
-            let disk = self.disk;
-            let mut total: u64 = 0;
-            let mut i = 0;
-            while i < n {
-                let d = disk[i];
-                if MOST - total < d {
-                    return StaleBytes::Refused(CountRefusal::SumTooBig);
-                }
-                total += d;
-                i += 1;
-            }
-            return StaleBytes::Sum(total);
+        if !self.well_formed() {
+            return Err(CountRefusal::MapFull);
         }
-        StaleBytes::Refused(CountRefusal::MapFull)
+        let mut total: u64 = 0;
+        for bytes in &self.disk[..self.count] {
+            total = total.checked_add(*bytes).ok_or(CountRefusal::SumTooBig)?;
+        }
+        Ok(total)
     }
 }

@@ -15,8 +15,7 @@ pub struct Rounded {
 fn lost_bits(x: u64) -> u32
     ensures { result ≡ lost x }
 {
-    let z = u64::leading_zeros(x);
-    if z < 40 { 40 - z } else { 0 }
+    40u32.saturating_sub(x.leading_zeros())
 }
 
 // `x` in multiples of 2^k, to the nearest, ties to even.

@@ -1,11 +1,11 @@
 // A dropped record as a tree holds it: the encoded indirection, with its mark.
 ghost use Rattle.std.specs.Prelude.{◌≡◌};
-ghost use Rattle.garbage.specs.Records.{record_of, read};
+ghost use Rattle.garbage.specs.Records.{record_of};
 ghost use Rattle.garbage.specs.Refusals.{record_number};
+ghost use Rattle.garbage.specs.declared.record.RecordRefusal.TheVariants.{Number, Count};
 
-use crate::dropped::Dropped;
-use crate::map::{CountRefusal, Counted, FragmentationMap, well_formed};
-use numbers::handle::{BlobIndirection, ReadIndirection};
+use crate::map::{CountRefusal, FragmentationMap};
+use numbers::handle::BlobIndirection;
 use numbers::leb128::NumberRefusal;
 
 // Why a record was not counted: a number of it could not be read, or the drop was refused.
@@ -15,15 +15,10 @@ pub enum RecordRefusal {
     Count(CountRefusal),
 }
 
-#[derive(Clone, Copy)]
-pub enum RecordAnswer {
-    Done,
-    Refused(RecordRefusal),
-}
-
+// Refused, the map is as it came in.
 #[derive(Clone, Copy)]
 pub struct RecordDropped {
-    pub answer: RecordAnswer,
+    pub answer: Result<(), RecordRefusal>,
     pub map: FragmentationMap,
 }
 
@@ -33,63 +28,50 @@ impl RecordRefusal {
         ensures { result ≡ record_number self }
     {
         match self {
-            RecordRefusal::Number(why) => {
-                match why {
-                    NumberRefusal::CutShort(_) => 7,
-                    NumberRefusal::TooLong => 10,
-                }
-            }
+            RecordRefusal::Number(why) => why.number(),
             RecordRefusal::Count(why) => why.number(),
         }
     }
 }
 
-fn told(d: Dropped) -> RecordDropped
-    ensures { result ≡ read d }
-{
-    let a = d.answer;
-    let map = d.map;
-    match a {
-        Counted::Done => RecordDropped {
-            answer: RecordAnswer::Done,
-            map,
-        },
-        Counted::Refused(why) => RecordDropped {
-            answer: RecordAnswer::Refused(RecordRefusal::Count(why)),
-            map,
-        },
+impl From<NumberRefusal> for RecordRefusal {
+    ghost from_gives = { λ why e. e ≡ Number why };
+
+    fn from(why: NumberRefusal) -> RecordRefusal {
+        RecordRefusal::Number(why)
+    }
+}
+
+impl From<CountRefusal> for RecordRefusal {
+    ghost from_gives = { λ why e. e ≡ Count why };
+
+    fn from(why: CountRefusal) -> RecordRefusal {
+        RecordRefusal::Count(why)
     }
 }
 
 impl FragmentationMap {
+    // A record counted where the map stands; refused, nothing changes.
+    fn count_record(&mut self, marked: bool, encoded: &[u8]) -> Result<(), RecordRefusal>
+        ensures { record { answer = result; map = self.new } ≡ record_of self.old marked encoded.now }
+    {
+        if !self.well_formed() {
+            return Err(RecordRefusal::Count(CountRefusal::MapFull));
+        }
+        if !marked {
+            return Ok(());
+        }
+        let decoded = BlobIndirection::decode(encoded, 0)?;
+        self.count_drop(decoded.value)?;
+        Ok(())
+    }
+
     // What follows the indirection is left.
     pub fn drop_record(self, marked: bool, encoded: &[u8]) -> RecordDropped
         ensures { result ≡ record_of self marked encoded.now }
     {
-        if well_formed(self) {
-            if marked {
-                let r = BlobIndirection::decode(encoded, 0);
-                match r {
-                    ReadIndirection::Refused(why) => RecordDropped {
-                        answer: RecordAnswer::Refused(RecordRefusal::Number(why)),
-                        map: self,
-                    },
-                    ReadIndirection::Indirection {
-                        indirection,
-                        used: _,
-                    } => { told(self.drop(indirection)) }
-                }
-            } else {
-                RecordDropped {
-                    answer: RecordAnswer::Done,
-                    map: self,
-                }
-            }
-        } else {
-            RecordDropped {
-                answer: RecordAnswer::Refused(RecordRefusal::Count(CountRefusal::MapFull)),
-                map: self,
-            }
-        }
+        let mut map = self;
+        let answer = map.count_record(marked, encoded);
+        RecordDropped { answer, map }
     }
 }

@@ -3,11 +3,11 @@ ghost use Rattle.std.specs.Prelude.{◌≡◌};
 ghost use Rattle.garbage.specs.Refusals.{dead_number, stale_number};
 ghost use Rattle.garbage.specs.Verdicts.{dead_of, stale_of};
 
-use crate::map::{FragmentationMap, Lookup};
+use crate::map::{FragmentationMap, MapFull};
 use crate::ratio::ratio;
 use frames::writer::Report;
 
-// Refused: the map is malformed.
+// Refused: the map is malformed. No Result, in the form that document 01 names for the stale verdict.
 #[derive(Clone, Copy)]
 pub enum DeadVerdict {
     Dead,
@@ -16,7 +16,7 @@ pub enum DeadVerdict {
     Refused,
 }
 
-// The ratio that a file was judged by stands in the verdict.
+// The ratio that a file was judged by stands in the verdict: document 01 names this form.
 #[derive(Clone, Copy)]
 pub enum StaleVerdict {
     Stale(f32),
@@ -57,26 +57,24 @@ impl StaleVerdict {
 pub fn is_dead(map: FragmentationMap, id: u64, report: Report) -> DeadVerdict
     ensures { result ≡ dead_of map id report }
 {
-    let found = map.get(id);
-    match found {
-        Lookup::Found(e) => {
+    match map.get(id) {
+        Ok(Some(e)) => {
             if e.stated == report.stated {
                 DeadVerdict::Dead
             } else {
                 DeadVerdict::Wanted
             }
         }
-        Lookup::NoEntry => DeadVerdict::NoEntry,
-        Lookup::Refused => DeadVerdict::Refused,
+        Ok(None) => DeadVerdict::NoEntry,
+        Err(MapFull) => DeadVerdict::Refused,
     }
 }
 
 pub fn is_stale(map: FragmentationMap, id: u64, report: Report, threshold: f32) -> StaleVerdict
     ensures { result ≡ stale_of map id report threshold }
 {
-    let found = map.get(id);
-    match found {
-        Lookup::Found(e) => {
+    match map.get(id) {
+        Ok(Some(e)) => {
             let r = ratio(e.stated, report.stated);
             if r >= threshold {
                 StaleVerdict::Stale(r)
@@ -84,7 +82,7 @@ pub fn is_stale(map: FragmentationMap, id: u64, report: Report, threshold: f32) 
                 StaleVerdict::Kept(r)
             }
         }
-        Lookup::NoEntry => StaleVerdict::NoEntry,
-        Lookup::Refused => StaleVerdict::Refused,
+        Ok(None) => StaleVerdict::NoEntry,
+        Err(MapFull) => StaleVerdict::Refused,
     }
 }

@@ -6,7 +6,7 @@ use lib.Bits.{bit_or, or_shifted_r}
 use Rattle.numbers.specs.Le.{num}
 use Rattle.hash.specs.Notation.{u64s}
 use Rattle.hash.specs.Shape.{end_of, joint_of, two_at}
-use Rattle.hash.specs.declared.medium.Two.{Two}
+use Rattle.hash.specs.declared.text.Two.{Two}
 use Rattle.hash.proofs.Parts.{num-take}
 use Rattle.hash.proofs.Seam.{before}
 use Rattle.hash.proofs.Chunks.{chunk_law}

@@ -1,9 +1,9 @@
 -- The words of the secret that the small inputs take, as the numbers that stand in the code; and the words of an input by where they begin.
-use Rattle.std.proofs.Common.{◌≡◌, ℕ, ◌+◌, ◌-◌, ◌*◌, ◌/◌, ◌%◌, ◌^◌, ◌≤◌, List, length, get_or, drop, sym, refl, ap, ◌∙◌, add-zero, arith}
+use Rattle.std.proofs.Common.{◌≡◌, ℕ, ◌+◌, ◌-◌, ◌*◌, ◌/◌, ◌%◌, ◌^◌, ◌≤◌, List, length, drop, sym, refl, ap, ◌∙◌, add-zero, arith}
 use lib.Bits.{bit_xor, bit_or}
 use Rattle.numbers.specs.Le.{le, num}
 use Rattle.numbers.specs.Wide.{bswap, rotl32}
-use Rattle.hash.specs.Notation.{add64, sub64, mul64, shl32, shl64, u32s, u64s, PRIME32_2, PRIME64_1, PRIME64_2, PRIME_MX2}
+use Rattle.hash.specs.Notation.{add64, sub64, mul64, shl64, u32s, u64s, PRIME32_2, PRIME64_1, PRIME64_2, PRIME_MX2}
 use Rattle.hash.specs.Secret.{seed, secret, avalanche, avalanche_XXH64}
 use Rattle.hash.specs.Small.{combined, modified_seed, XXH3_128_1to3, XXH3_128_4to8, XXH3_128_9to16}
 use Rattle.hash.specs.declared.Hash128.{Hash128}
@@ -89,10 +89,6 @@ mix_16_law x v n m l g w h r em el eg ew eh e = rw (e, el, em, eh, ew, eg, val2_
 
 -- what the code computes is the description's
 module _ (s : List ℕ) where
-  pub combined_law : (a b c : ℕ) → a ≡ get_or s (length s - 1) 0 → b ≡ get_or s 0 0 → c ≡ get_or s (length s / 2 ^ 1) 0 → bit_or (bit_or (bit_or a (shl32 (length s) 8)) (shl32 b 16)) (shl32 c 24) ≡ combined s
-  unfolding combined
-  combined_law a b c ea eb ec = rw (ea, eb, ec)
-
   pub law_3 : (x w y l h : ℕ) → x ≡ combined s → w ≡ bswap 4 x → y ≡ rotl32 w 13 → l ≡ avalanche_XXH64 (bit_xor 0x87275a9b x) → h ≡ avalanche_XXH64 (bit_xor 0x302c208b y) → ◌≡◌ {A = Hash128} (record { low = l; high = h }) (XXH3_128_1to3 s)
   unfolding XXH3_128_1to3
   law_3 x w y l h ex ew ey el eh =

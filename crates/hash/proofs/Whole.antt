@@ -1,10 +1,10 @@
 -- All stripes, one after the other with a scramble after every 16th, are the description's blocks and the stripes of its last block.
 use Rattle.std.proofs.Common.{◌≡◌, ℕ, zero, suc, ◌+◌, ◌-◌, ◌*◌, ◌/◌, ◌%◌, ◌<◌, ◌≤◌, List, length, sym, refl, ap, ◌∙◌, ap₂, arith, eq-eqb, ne_eqb}
 use Rattle.numbers.specs.Pick.{pick}
-use Rattle.hash.specs.Notation.{mul64, not64, u64s, for_up, PRIME64_1, PRIME64_2}
+use Rattle.hash.specs.Notation.{u64s, for_up}
 use Rattle.hash.specs.Secret.{secret, secret_length}
-use Rattle.hash.specs.Large.{acc_large, stripes_per_block, block_size, accumulate, accumulate_nth, round_accumulate, round_scramble, round, full_blocks, last_round, accumulated, final_merge, XXH3_128_large}
-use Rattle.hash.specs.ShapeLong.{block_end, step_at, stripes_of}
+use Rattle.hash.specs.Large.{acc_large, stripes_per_block, block_size, accumulate, accumulate_nth, round_accumulate, round_scramble, round, full_blocks, last_round, accumulated, XXH3_128_large}
+use Rattle.hash.specs.ShapeLong.{block_end, step_at, stripes_of, finish_of}
 use Rattle.hash.specs.declared.Hash128.{Hash128}
 use Rattle.hash.proofs.Loops.{for_up-same, for_up-plus}
 
@@ -73,11 +73,11 @@ module _ (s : List ℕ) where
       ∙ rw block_size_lem refl
 
   -- both merges are the hash, n being the length
-  pub merged_law : (n : ℕ) (a b : List ℕ) (l h : ℕ) → n ≡ length s → a ≡ stripes_of s 0 0 ((n - 1) / 64) acc_large → b ≡ accumulate (u64s s (n - 64)) (secret_length - 71) a → l ≡ final_merge b (mul64 n PRIME64_1) 11 → h ≡ final_merge b (not64 (mul64 n PRIME64_2)) (secret_length - 75) → ◌≡◌ {A = Hash128} (record { low = l; high = h }) (XXH3_128_large s)
-  unfolding XXH3_128_large
-  merged_law n a b l h en ea eb el eh =
+  pub merged_law : (n : ℕ) (a b : List ℕ) (r : Hash128) → n ≡ length s → a ≡ stripes_of s 0 0 ((n - 1) / 64) acc_large → b ≡ accumulate (u64s s (n - 64)) (secret_length - 71) a → r ≡ finish_of n b → r ≡ XXH3_128_large s
+  unfolding XXH3_128_large finish_of
+  merged_law n a b r en ea eb er =
       let e : b ≡ accumulated s = rw (eb, ea, en) all_stripes in
-      rw (el, eh, e, en)
+      rw (er, e, en)
 
-  pub large_law : (a b : List ℕ) (l h : ℕ) → a ≡ stripes_of s 0 0 ((length s - 1) / 64) acc_large → b ≡ accumulate (u64s s (length s - 64)) (secret_length - 71) a → l ≡ final_merge b (mul64 (length s) PRIME64_1) 11 → h ≡ final_merge b (not64 (mul64 (length s) PRIME64_2)) (secret_length - 75) → ◌≡◌ {A = Hash128} (record { low = l; high = h }) (XXH3_128_large s)
-  large_law a b l h = merged_law (length s) a b l h refl
+  pub large_law : (a b : List ℕ) (r : Hash128) → a ≡ stripes_of s 0 0 ((length s - 1) / 64) acc_large → b ≡ accumulate (u64s s (length s - 64)) (secret_length - 71) a → r ≡ finish_of (length s) b → r ≡ XXH3_128_large s
+  large_law a b r = merged_law (length s) a b r refl

@@ -1,15 +1,13 @@
 -- Definitions in the code's own shape, for the contracts of private functions; proofs/ ties each to the description's.
-use Rattle.std.specs.Prelude.{ℕ, ◌+◌, ◌-◌, ◌*◌, ◌/◌, ◌%◌, ◌^◌, List, length, drop, bit_or, bit_xor, nat_le, nat_lt}
+use Rattle.std.specs.Prelude.{ℕ, zero, suc, ◌+◌, ◌-◌, ◌*◌, ◌/◌, ◌%◌, ◌^◌, List, length, drop, bit_or, bit_xor}
 use Rattle.numbers.specs.Le.{num}
-use Rattle.numbers.specs.Pick.{pick}
 use Rattle.numbers.specs.Wide.{bswap}
-use Rattle.hash.specs.Notation.{add64, sub64, mul64, shl64, u64s, PRIME32_2, PRIME64_2, PRIME_MX2}
-use Rattle.hash.specs.Secret.{seed, secret, avalanche}
-use Rattle.hash.specs.Medium.{round_inward, chunk_after_128}
+use Rattle.hash.specs.Notation.{add64, mul64, shl64, u64s, PRIME32_2, PRIME64_2, PRIME_MX2}
+use Rattle.hash.specs.Secret.{seed, avalanche}
+use Rattle.hash.specs.Medium.{mix_two_chunks}
 use Rattle.hash.specs.declared.Hash128.{Hash128}
 use Rattle.hash.specs.declared.medium.Acc.{Acc}
-use Rattle.hash.specs.declared.medium.Key.{Key}
-use Rattle.hash.specs.declared.medium.Two.{Two}
+use Rattle.hash.specs.declared.text.Two.{Two}
 
 -- the halves of a product, mixed
 abbrev pub fold_of : ℕ → ℕ → ℕ
@@ -39,26 +37,10 @@ mix9to16 m val2 n =
     end9to16 (add64 (m % 2 ^ 64) (shl64 (n - 1) 54))
     (add64 (add64 (m / 2 ^ 64) (shl64 (val2 / 2 ^ 32) 32)) (mul64 (val2 % 2 ^ 32) PRIME32_2))
 
--- 17-240 bytes: the words of the secret that two chunks take, and what they make of the accumulators
-unfoldable pub key_at : ℕ → Key
-key_at o = record {
-  a = add64 (u64s secret o 0) seed;
-  b = sub64 (u64s secret o 1) seed;
-  c = add64 (u64s secret (o + 16) 0) seed;
-  d = sub64 (u64s secret (o + 16) 1) seed;
-}
-
-abbrev pub mix_half : ℕ → ℕ → ℕ → ℕ → ℕ → ℕ → ℕ → ℕ
-mix_half acc x y a b u v = bit_xor (add64 acc (fold_of (bit_xor x a) (bit_xor y b))) (add64 u v)
-
-unfoldable pub mix_two : Two → Two → Key → Acc → Acc
-mix_two p q k acc = record {
-  a0 = mix_half acc.a0 p.x p.y k.a k.b q.x q.y;
-  a1 = mix_half acc.a1 q.x q.y k.c k.d p.x p.y;
-}
-
-unfoldable pub mix_keyed : (ℕ → ℕ) → (ℕ → ℕ) → Key → Acc → Acc
-mix_keyed x u = mix_two (record { x = x 0; y = x 1 }) (record { x = u 0; y = u 1 })
+-- 17-240 bytes: the words of a chunk as it was read, and a chunk of a text
+unfoldable pub words_of : Two → ℕ → ℕ
+words_of p zero = p.x
+words_of p (suc k) = p.y
 
 unfoldable pub two_at : List ℕ → ℕ → Two
 two_at s i = record { x = u64s s i 0; y = u64s s i 1 }
@@ -70,16 +52,6 @@ end_of k = num 8 (drop (length k - 8) k) * 256 ^ (8 - length k)
 abbrev pub joint_of : ℕ → ℕ → ℕ → ℕ
 joint_of t h d = bit_or (t / 2 ^ (64 - 8 * d)) (h * 2 ^ (8 * d) % 2 ^ 64)
 
--- 17-128 bytes: the rounds that not every length has
-unfoldable pub fourth_of : List ℕ → Acc → Acc
-fourth_of s acc = pick (nat_le (length s) 96) acc (round_inward s 3 acc)
-
-unfoldable pub third_of : List ℕ → Acc → Acc
-third_of s acc = pick (nat_le (length s) 64) acc (round_inward s 2 (fourth_of s acc))
-
-unfoldable pub second_of : List ℕ → Acc → Acc
-second_of s acc = pick (nat_le (length s) 32) acc (round_inward s 1 (third_of s acc))
-
--- 129-240 bytes: the chunks that not every length has
-unfoldable pub chunk_from : List ℕ → ℕ → ℕ → Acc → Acc
-chunk_from s n i acc = pick (nat_lt (length s) n) acc (chunk_after_128 s i acc)
+-- 129-240 bytes: chunk i with the words of the secret from o on
+unfoldable pub chunk_onward : List ℕ → ℕ → ℕ → Acc → Acc
+chunk_onward s i o = mix_two_chunks (u64s s (i * 32)) (u64s s (i * 32 + 16)) o seed

@@ -1,11 +1,24 @@
-// Words of key and value as one string, read where they lie. In all of them t is the key's end and h the value's first eight bytes.
+// Key and value as one text: the words that cross from key to value are made of both ends.
 ghost use Rattle.std.specs.Prelude.{◌≡◌, ◌+◌, ◌-◌, ◌<◌, ◌≤◌, ◌++◌, length, drop};
-ghost use Rattle.numbers.specs.Le.{num};
-ghost use Rattle.hash.specs.Shape.{two_at, end_of, joint_of};
+ghost use Rattle.numbers.specs.Le.{num, Octets};
+ghost use Rattle.hash.specs.Shape.{end_of, joint_of};
 
-use super::medium::{Two, chunk};
+use super::text::{Text, Two, chunk};
 use super::words::{read32, read64};
-use numbers::bytes::get_u32;
+use numbers::bytes::get;
+
+// The key's last eight bytes at the top of a word, and the value's first eight.
+#[derive(Clone, Copy)]
+pub(crate) struct Joined<'a> {
+    key: &'a [u8],
+    value: &'a [u8],
+    end: u64,
+    head: u64,
+    ghost key_octets: { Octets key.now },
+    ghost value_octets: { Octets value.now },
+    ghost ends: { end ≡ end_of key.now },
+    ghost begins: { head ≡ num 8 value.now },
+}
 
 // Fewer than eight bytes: two reads of four, or byte by byte.
 fn few(s: &[u8]) -> u64
@@ -14,13 +27,14 @@ fn few(s: &[u8]) -> u64
 {
     let n = s.len();
     if 4 <= n {
-        return read32(s, 0) | ((read32(s, n - 4) >> (8 * ((8 - n) as u32))) << 32);
+        return (read32(s, 0) as u64)
+            | (((read32(s, n - 4) as u64) >> (8 * ((8 - n) as u32))) << 32);
     }
-    get_u32(&s[..n], 0) as u64
+    get::<u32>(&s[..n], 0) as u64
 }
 
 // The first eight bytes, or as many as there are.
-pub(crate) fn head(s: &[u8]) -> u64
+fn head(s: &[u8]) -> u64
     ensures { result ≡ num 8 s.now }
 {
     let n = s.len();
@@ -31,7 +45,7 @@ pub(crate) fn head(s: &[u8]) -> u64
 }
 
 // The last eight bytes, or as many as there are, at the top.
-pub(crate) fn end(s: &[u8]) -> u64
+fn end(s: &[u8]) -> u64
     ensures { result ≡ end_of s.now }
 {
     let n = s.len();
@@ -41,73 +55,86 @@ pub(crate) fn end(s: &[u8]) -> u64
     (few(&s[..n]) << (56 - 8 * (n as u32))) << 8
 }
 
-// The word of which the first d bytes stand in key.
-fn joint(t: u64, h: u64, d: usize) -> u64
-    requires { (0 < d) × (d < 8) }
-    ensures { result ≡ joint_of t h d }
-{
-    (t >> (64 - 8 * (d as u32))) | (h << (8 * (d as u32)))
-}
+impl<'a> Joined<'a> {
+    pub(crate) fn new(key: &'a [u8], value: &'a [u8]) -> Self
+        ensures { (result.key.now ≡ key.now) × (result.value.now ≡ value.now) }
+    {
+        Joined {
+            key,
+            value,
+            end: end(key),
+            head: head(value),
+        }
+    }
 
-// The word from i on.
-fn word(key: &[u8], value: &[u8], i: usize, t: u64, h: u64) -> u64
-    requires { (i + 8 ≤ length key.now + length value.now) × (t ≡ end_of key.now) × (h ≡ num 8 value.now) }
-    ensures { result ≡ num 8 (drop i (key.now ++ value.now)) }
-{
-    let m = key.len();
-    if m <= i {
-        return read64(value, i - m);
+    // The word of which the first d bytes stand in key.
+    fn joint(&self, d: usize) -> u64
+        requires { (0 < d) × (d < 8) }
+        ensures { result ≡ joint_of self.now.end self.now.head d }
+    {
+        (self.end >> (64 - 8 * (d as u32))) | (self.head << (8 * (d as u32)))
     }
-    if i + 8 <= m {
-        return read64(key, i);
-    }
-    joint(t, h, m - i)
-}
 
-// The word j bytes before the end.
-fn word_back(key: &[u8], value: &[u8], j: usize, t: u64, h: u64) -> u64
-    requires { (8 ≤ j) × (j ≤ length key.now + length value.now) × (t ≡ end_of key.now) × (h ≡ num 8 value.now) }
-    ensures { result ≡ num 8 (drop (length key.now + length value.now - j) (key.now ++ value.now)) }
-{
-    let n = value.len();
-    if j <= n {
-        return read64(value, n - j);
+    // The word from i on.
+    fn word(&self, i: usize) -> u64
+        requires { i + 8 ≤ length self.now.key.now + length self.now.value.now }
+        ensures { result ≡ num 8 (drop i (self.now.key.now ++ self.now.value.now)) }
+    {
+        let m = self.key.len();
+        if m <= i {
+            return read64(self.value, i - m);
+        }
+        if i + 8 <= m {
+            return read64(self.key, i);
+        }
+        self.joint(m - i)
     }
-    if n + 8 <= j {
-        return read64(key, key.len() - (j - n));
-    }
-    joint(t, h, j - n)
-}
 
-// 16 bytes from i on.
-pub(crate) fn front(key: &[u8], value: &[u8], i: usize, t: u64, h: u64) -> Two
-    requires { (i + 16 ≤ length key.now + length value.now) × (t ≡ end_of key.now) × (h ≡ num 8 value.now) }
-    ensures { result ≡ two_at (key.now ++ value.now) i }
-{
-    let m = key.len();
-    if i + 16 <= m {
-        return chunk(key, i);
-    }
-    if m <= i {
-        return chunk(value, i - m);
-    }
-    Two {
-        x: word(key, value, i, t, h),
-        y: word(key, value, i + 8, t, h),
+    // The word j bytes before the end.
+    fn word_back(&self, j: usize) -> u64
+        requires { (8 ≤ j) × (j ≤ length self.now.key.now + length self.now.value.now) }
+        ensures { result ≡ num 8 (drop (length self.now.key.now + length self.now.value.now - j) (self.now.key.now ++ self.now.value.now)) }
+    {
+        let n = self.value.len();
+        if j <= n {
+            return read64(self.value, n - j);
+        }
+        if n + 8 <= j {
+            return read64(self.key, self.key.len() - (j - n));
+        }
+        self.joint(j - n)
     }
 }
 
-// 16 bytes from j before the end on.
-pub(crate) fn back(key: &[u8], value: &[u8], j: usize, t: u64, h: u64) -> Two
-    requires { (16 ≤ j) × (j ≤ length key.now + length value.now) × (t ≡ end_of key.now) × (h ≡ num 8 value.now) }
-    ensures { result ≡ two_at (key.now ++ value.now) (length key.now + length value.now - j) }
-{
-    let n = value.len();
-    if j <= n {
-        return chunk(value, n - j);
+impl<'a> Text for Joined<'a> {
+    ghost bytes = { λ s. s.key.now ++ s.value.now };
+
+    fn len(&self) -> usize {
+        self.key.len() + self.value.len()
     }
-    Two {
-        x: word_back(key, value, j, t, h),
-        y: word_back(key, value, j - 8, t, h),
+
+    fn front(&self, i: usize) -> Two {
+        let m = self.key.len();
+        if i + 16 <= m {
+            return chunk(self.key, i);
+        }
+        if m <= i {
+            return chunk(self.value, i - m);
+        }
+        Two {
+            x: self.word(i),
+            y: self.word(i + 8),
+        }
+    }
+
+    fn back(&self, j: usize) -> Two {
+        let n = self.value.len();
+        if j <= n {
+            return chunk(self.value, n - j);
+        }
+        Two {
+            x: self.word_back(j),
+            y: self.word_back(j - 8),
+        }
     }
 }

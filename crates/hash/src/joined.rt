@@ -3,14 +3,15 @@ ghost use Rattle.std.specs.Prelude.{◌≡◌, ◌+◌, ◌-◌, ◌*◌, ◌/�
 ghost use Rattle.hash.specs.Notation.{u64s};
 ghost use Rattle.hash.specs.Secret.{secret_length};
 ghost use Rattle.hash.specs.Large.{acc_large, accumulate};
-ghost use Rattle.numbers.specs.Le.{num};
-ghost use Rattle.hash.specs.Shape.{end_of};
-ghost use Rattle.hash.specs.ShapeLong.{first_lanes, stripes_of};
+ghost use Rattle.hash.specs.ShapeLong.{stripes_of};
 ghost use Rattle.hash.specs.XXH3.{xxh3_128};
 
-use super::border::{end, front, head};
-use super::rounds::{from_17_to_32, from_17_to_128, from_33_to_64, from_129_to_240};
+use super::border::Joined;
+use super::long::{START, lane};
+use super::medium::{from_17_to_32, from_17_to_128, from_33_to_64, from_129_to_240};
+use super::secret::word;
 use super::short::upto_16;
+use super::text::Text;
 use super::{Hash128, early, long, medium};
 use numbers::bytes::copy;
 
@@ -34,7 +35,7 @@ fn from_0_to_32(key: &[u8], value: &[u8]) -> Hash128
     if key.len() + value.len() <= 16 {
         return gathered(key, value);
     }
-    from_17_to_32(key, value, end(key), head(value))
+    from_17_to_32(&Joined::new(key, value))
 }
 
 pub(crate) fn upto_32(key: &[u8], value: &[u8]) -> Hash128
@@ -46,21 +47,7 @@ pub(crate) fn upto_32(key: &[u8], value: &[u8]) -> Hash128
     from_0_to_32(&key[..m], &value[..n])
 }
 
-// An empty key leaves one slice, here and in from_241.
-fn from_65_to_240(key: &[u8], value: &[u8], t: u64, h: u64) -> Hash128
-    requires { (64 < length key.now + length value.now) × (length key.now + length value.now ≤ 240) × (t ≡ end_of key.now) × (h ≡ num 8 value.now) }
-    ensures { result ≡ xxh3_128 (key.now ++ value.now) }
-{
-    if key.len() + value.len() <= 128 {
-        return from_17_to_128(key, value, t, h);
-    }
-    if key.len() == 0 {
-        return medium::upto_240(value);
-    }
-    from_129_to_240(key, value, t, h)
-}
-
-// A string shorter than the class goes to the class before.
+// A string shorter than the class goes to the class before. An empty key leaves one slice, here and in from_241.
 fn from_33_to_240(key: &[u8], value: &[u8]) -> Hash128
     requires { length key.now + length value.now ≤ 240 }
     ensures { result ≡ xxh3_128 (key.now ++ value.now) }
@@ -69,12 +56,17 @@ fn from_33_to_240(key: &[u8], value: &[u8]) -> Hash128
     if n <= 32 {
         return upto_32(key, value);
     }
-    let t = end(key);
-    let h = head(value);
+    let s = Joined::new(key, value);
     if n <= 64 {
-        return from_33_to_64(key, value, t, h);
+        return from_33_to_64(&s);
     }
-    from_65_to_240(key, value, t, h)
+    if n <= 128 {
+        return from_17_to_128(&s);
+    }
+    if key.len() == 0 {
+        return medium::upto_240(value);
+    }
+    from_129_to_240(&s)
 }
 
 pub(crate) fn upto_240(key: &[u8], value: &[u8]) -> Hash128
@@ -98,36 +90,18 @@ fn across(key: &[u8], value: &[u8], i: usize) -> [u8; 64]
     buf
 }
 
-// Four lanes of the first stripe, and all eight.
-fn first_half(key: &[u8], value: &[u8], t: u64, h: u64) -> [u64; 8]
-    requires { (64 ≤ length key.now + length value.now) × (t ≡ end_of key.now) × (h ≡ num 8 value.now) }
-    ensures { result ≡ first_lanes (key.now ++ value.now) 4 }
+// The first stripe, read by words.
+fn first(s: &Joined) -> [u64; 8]
+    requires { 64 ≤ length s.now.key.now + length s.now.value.now }
+    ensures { result ≡ stripes_of (s.now.key.now ++ s.now.value.now) 0 0 1 acc_large }
 {
-    let r = [
-        0xc2b2_ae3d,
-        0x9e37_79b1_85eb_ca87,
-        0xc2b2_ae3d_27d4_eb4f,
-        0x1656_67b1_9e37_79f9,
-        0x85eb_ca77_c2b2_ae63,
-        0x85eb_ca77,
-        0x27d4_eb2f_1656_67c5,
-        0x9e37_79b1,
-    ];
-    let a = front(key, value, 0, t, h);
-    let q = long::two_lanes(r, 0, a, 0xbe4b_a423_396c_feb8, 0x1cad_21f7_2c81_017c);
-    let b = front(key, value, 16, t, h);
-    long::two_lanes(q, 2, b, 0xdb97_9083_e96d_d4de, 0x1f67_b3b7_a4a4_4072)
-}
-
-fn first(key: &[u8], value: &[u8], t: u64, h: u64) -> [u64; 8]
-    requires { (64 ≤ length key.now + length value.now) × (t ≡ end_of key.now) × (h ≡ num 8 value.now) }
-    ensures { result ≡ stripes_of (key.now ++ value.now) 0 0 1 acc_large }
-{
-    let r = first_half(key, value, t, h);
-    let a = front(key, value, 32, t, h);
-    let q = long::two_lanes(r, 4, a, 0x78e5_c0cc_4ee6_79cb, 0x2172_ffcc_7dd0_5a82);
-    let b = front(key, value, 48, t, h);
-    long::two_lanes(q, 6, b, 0x8e24_43f7_7446_08b8, 0x4c26_3a81_e690_35e0)
+    let mut r = START;
+    for i in 0..4 {
+        let p = s.front(16 * i);
+        let q = lane(r, 2 * i, p.x, word(16 * i));
+        r = lane(q, 2 * i + 1, p.y, word(16 * i + 8));
+    }
+    r
 }
 
 // The stripes that begin in key, p of them whole, with the one that crosses to value.
@@ -149,7 +123,7 @@ fn stripes(key: &[u8], value: &[u8]) -> [u64; 8]
     let p = m / 64;
     let n = (m + v - 1) / 64;
     if p == 0 {
-        let r = first(key, value, end(key), head(value));
+        let r = first(&Joined::new(key, value));
         if n <= 8 {
             return early::stripes(r, &value[..v], 64 - m, n - 1);
         }
@@ -179,11 +153,7 @@ fn large(key: &[u8], value: &[u8]) -> Hash128
     ensures { result ≡ xxh3_128 (key.now ++ value.now) }
 {
     let n = (key.len() + value.len()) as u64;
-    let a = last(stripes(key, value), key, value);
-    Hash128 {
-        low: long::low(a, n),
-        high: long::high(a, n),
-    }
+    long::finish(last(stripes(key, value), key, value), n)
 }
 
 fn from_241(key: &[u8], value: &[u8]) -> Hash128

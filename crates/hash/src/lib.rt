@@ -9,12 +9,14 @@ mod early;
 mod joined;
 mod long;
 mod medium;
-mod rounds;
+mod primes;
+mod secret;
 mod short;
+mod text;
 mod words;
 
 // The two halves of a hash.
-#[derive(Clone, Copy)]
+#[derive(Clone, Copy, Debug, PartialEq, Eq)]
 pub struct Hash128 {
     pub low: u64,
     pub high: u64,

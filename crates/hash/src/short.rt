@@ -6,9 +6,9 @@ ghost use Rattle.hash.specs.Shape.{end4to8, mix4to8, end9to16, mix9to16};
 ghost use Rattle.hash.specs.XXH3.{xxh3_128};
 
 use super::Hash128;
+use super::primes::{PRIME_MX2, PRIME32_2, PRIME64_1, PRIME64_2};
 use super::words::{avalanche, avalanche_xxh64, read32, read64};
-use numbers::wide::{high_product, rotate_left_u32, swap_bytes_u32, swap_bytes_u64, wrapping_mul};
-use std::num::wrapping_add_u64;
+use numbers::wide::{high_product, rotate_left_u32, swap_bytes_u32, swap_bytes_u64};
 
 fn empty() -> Hash128
     ensures { result ≡ XXH3_128_empty }
@@ -19,19 +19,13 @@ fn empty() -> Hash128
     }
 }
 
-fn byte32(x: u8) -> u32
-    ensures { result ≡ x }
-{
-    x as u32
-}
-
-// The bytes of one to three, with their number.
+// The bytes of one to three, with their number. Joined by `|`: by from_le_bytes the classes share their ends, and 16 bytes take 72 instructions and not 71.
 fn combined(s: &[u8]) -> u32
     requires { (0 < length s.now) × (length s.now ≤ 3) }
     ensures { result ≡ combinedOf s.now }
 {
     let n = s.len();
-    byte32(s[n - 1]) | ((n as u32) << 8) | (byte32(s[0]) << 16) | (byte32(s[n >> 1]) << 24)
+    (s[n - 1] as u32) | ((n as u32) << 8) | ((s[0] as u32) << 16) | ((s[n / 2] as u32) << 24)
 }
 
 fn from_1_to_3(s: &[u8]) -> Hash128
@@ -50,7 +44,7 @@ fn end_4_to_8(l: u64, h: u64) -> Hash128
     ensures { result ≡ end4to8 l h }
 {
     let x = l ^ (h >> 3);
-    let y = wrapping_mul(x ^ (x >> 35), 0x9fb2_1c65_1e98_df25);
+    let y = (x ^ (x >> 35)).wrapping_mul(PRIME_MX2);
     Hash128 {
         low: y ^ (y >> 28),
         high: avalanche(h),
@@ -61,8 +55,8 @@ fn end_4_to_8(l: u64, h: u64) -> Hash128
 fn mix_4_to_8(x: u64, y: u64) -> Hash128
     ensures { result ≡ mix4to8 (x * y) }
 {
-    let l = wrapping_mul(x, y);
-    end_4_to_8(l, wrapping_add_u64(high_product(x, y), l << 1))
+    let l = x.wrapping_mul(y);
+    end_4_to_8(l, high_product(x, y).wrapping_add(l << 1))
 }
 
 fn from_4_to_8(s: &[u8]) -> Hash128
@@ -70,23 +64,17 @@ fn from_4_to_8(s: &[u8]) -> Hash128
     ensures { result ≡ XXH3_128_4to8 s.now }
 {
     let n = s.len();
-    let x = read32(s, 0) | (read32(s, n - 4) << 32);
-    mix_4_to_8(
-        0xc4f0_2334_4dc9_94ac ^ x,
-        0x9e37_79b1_85eb_ca87 + (n as u64) * 4,
-    )
+    let x = (read32(s, 0) as u64) | ((read32(s, n - 4) as u64) << 32);
+    mix_4_to_8(0xc4f0_2334_4dc9_94ac ^ x, PRIME64_1 + (n as u64) * 4)
 }
 
 fn end_9_to_16(l: u64, h: u64) -> Hash128
     ensures { result ≡ end9to16 l h }
 {
     let x = l ^ swap_bytes_u64(h);
-    let y = wrapping_add_u64(
-        high_product(x, 0xc2b2_ae3d_27d4_eb4f),
-        wrapping_mul(h, 0xc2b2_ae3d_27d4_eb4f),
-    );
+    let y = high_product(x, PRIME64_2).wrapping_add(h.wrapping_mul(PRIME64_2));
     Hash128 {
-        low: avalanche(wrapping_mul(x, 0xc2b2_ae3d_27d4_eb4f)),
+        low: avalanche(x.wrapping_mul(PRIME64_2)),
         high: avalanche(y),
     }
 }
@@ -95,9 +83,9 @@ fn mix_9_to_16(x: u64, v: u64, n: u64) -> Hash128
     requires { 0 < n }
     ensures { result ≡ mix9to16 (x * 0x9e3779b185ebca87) v n }
 {
-    let l = wrapping_add_u64(wrapping_mul(x, 0x9e37_79b1_85eb_ca87), (n - 1) << 54);
-    let h = wrapping_add_u64(high_product(x, 0x9e37_79b1_85eb_ca87), v);
-    end_9_to_16(l, wrapping_add_u64(h, (v % 0x1_0000_0000) * 0x85eb_ca76))
+    let l = x.wrapping_mul(PRIME64_1).wrapping_add((n - 1) << 54);
+    let h = high_product(x, PRIME64_1).wrapping_add(v);
+    end_9_to_16(l, h.wrapping_add((v % 0x1_0000_0000) * (PRIME32_2 - 1)))
 }
 
 fn from_9_to_16(s: &[u8]) -> Hash128

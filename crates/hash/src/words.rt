@@ -1,23 +1,18 @@
 // Words read from bytes, and the mixes that every length shares.
-ghost use Rattle.std.specs.Prelude.{◌≡◌, ◌+◌, ◌^◌, ◌<◌, ◌≤◌, length, drop};
+ghost use Rattle.std.specs.Prelude.{◌≡◌, ◌+◌, ◌≤◌, length, drop};
 ghost use Rattle.numbers.specs.Le.{num};
 ghost use Rattle.hash.specs.Secret.{avalanche, avalanche_XXH64};
 ghost use Rattle.hash.specs.Shape.{fold_of};
 
-use numbers::wide::{high_product, wrapping_mul};
-
-fn byte(x: u8) -> u64
-    ensures { (result ≡ x) × (result < 256) }
-{
-    x as u64
-}
+use super::primes::{PRIME_MX1, PRIME64_2, PRIME64_3};
+use numbers::wide::high_product;
 
 // Four bytes of s from i on, the lowest first.
-pub(crate) fn read32(s: &[u8], i: usize) -> u64
+pub(crate) fn read32(s: &[u8], i: usize) -> u32
     requires { i + 4 ≤ length s.now }
-    ensures { (result ≡ num 4 (drop i s.now)) × (result < 2 ^ 32) }
+    ensures { result ≡ num 4 (drop i s.now) }
 {
-    byte(s[i]) | (byte(s[i + 1]) << 8) | (byte(s[i + 2]) << 16) | (byte(s[i + 3]) << 24)
+    u32::from_le_bytes([s[i], s[i + 1], s[i + 2], s[i + 3]])
 }
 
 // Eight bytes of s from i on, the lowest first.
@@ -25,34 +20,36 @@ pub(crate) fn read64(s: &[u8], i: usize) -> u64
     requires { i + 8 ≤ length s.now }
     ensures { result ≡ num 8 (drop i s.now) }
 {
-    byte(s[i])
-        | (byte(s[i + 1]) << 8)
-        | (byte(s[i + 2]) << 16)
-        | (byte(s[i + 3]) << 24)
-        | (byte(s[i + 4]) << 32)
-        | (byte(s[i + 5]) << 40)
-        | (byte(s[i + 6]) << 48)
-        | (byte(s[i + 7]) << 56)
+    u64::from_le_bytes([
+        s[i],
+        s[i + 1],
+        s[i + 2],
+        s[i + 3],
+        s[i + 4],
+        s[i + 5],
+        s[i + 6],
+        s[i + 7],
+    ])
 }
 
 // The halves of the product of a and b, mixed.
 pub(crate) fn fold(a: u64, b: u64) -> u64
     ensures { result ≡ fold_of a b }
 {
-    wrapping_mul(a, b) ^ high_product(a, b)
+    a.wrapping_mul(b) ^ high_product(a, b)
 }
 
 pub(crate) fn avalanche(x: u64) -> u64
     ensures { result ≡ avalanche x }
 {
-    let y = wrapping_mul(x ^ (x >> 37), 0x1656_6791_9e37_79f9);
+    let y = (x ^ (x >> 37)).wrapping_mul(PRIME_MX1);
     y ^ (y >> 32)
 }
 
 pub(crate) fn avalanche_xxh64(x: u64) -> u64
     ensures { result ≡ avalanche_XXH64 x }
 {
-    let y = wrapping_mul(x ^ (x >> 33), 0xc2b2_ae3d_27d4_eb4f);
-    let z = wrapping_mul(y ^ (y >> 29), 0x1656_67b1_9e37_79f9);
+    let y = (x ^ (x >> 33)).wrapping_mul(PRIME64_2);
+    let z = (y ^ (y >> 29)).wrapping_mul(PRIME64_3);
     z ^ (z >> 32)
 }

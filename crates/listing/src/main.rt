@@ -4,15 +4,14 @@
 mod input;
 mod list;
 
-use input::{Input, filled};
+use input::filled;
 use list::list;
-use numbers::bytes::part;
 use std::io;
 
 fn main(rt: HostRuntime) -> io::Result<()> {
     let mut bytes = [0; 65536];
-    match filled(&mut rt.stdin(), &mut bytes) {
-        Input::Bytes(n) => list(&rt, part(&bytes, 0, n)),
-        Input::Failed => eprintln!(rt; "cannot read"),
-    }
+    let Ok(n) = filled(&mut rt.stdin(), &mut bytes) else {
+        return eprintln!(rt; "cannot read");
+    };
+    list(&rt, &bytes[..n])
 }

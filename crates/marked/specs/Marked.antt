@@ -3,7 +3,7 @@ use Rattle.std.specs.Prelude.{ℕ, ◌-◌, ◌^◌, ◌≡◌, [], ◌∷◌, t
 use Rattle.numbers.specs.Leb128.{shortest}
 use Rattle.numbers.specs.Handle.{handle_bytes}
 use Rattle.numbers.specs.Marked.{marked-numbers}
-use Rattle.merge.specs.declared.order.Order.TheVariants.{Less, Equal}
+use Rattle.std.specs.declared.cmp.Ordering.TheVariants.{Less, Equal}
 use Rattle.merge.specs.Order.{order_of}
 use Rattle.merge.specs.Merge.{ranked}
 use Rattle.merge.specs.Marked.{marked_merge}

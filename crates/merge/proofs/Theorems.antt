@@ -11,22 +11,25 @@ use Rattle.numbers.specs.declared.handle.ValueHandle.{ValueHandle}
 use Rattle.merge.specs.declared.parts.Part.{Part}
 use Rattle.merge.specs.declared.parts.MergeScanner.{MergeScanner}
 use Rattle.merge.specs.declared.heads.MergeEntry.{MergeEntry}
-use Rattle.merge.specs.declared.next.MergeAnswer.{MergeAnswer}
-use Rattle.merge.specs.declared.next.MergeAnswer.TheVariants as answer
-use Rattle.merge.specs.declared.next.MergeRefusal.TheVariants as merge
+use Rattle.std.specs.Prelude.{Option, Some, None, Ok, Err}
+use Rattle.std.specs.declared.cmp.Ordering.{Ordering}
+use Rattle.std.specs.declared.cmp.Ordering.TheVariants.{Less, Equal, Greater}
+use Rattle.numbers.specs.Pick.{pick}
+use Rattle.frames.specs.Scan.{Scanned}
+use Rattle.frames.specs.declared.scanner.Step.TheVariants as scanned
+use Rattle.merge.specs.declared.drain.Outcome.TheVariants as outcome
+use Rattle.merge.specs.declared.refusals.MergeRefusal.TheVariants as merge
+use Rattle.merge.specs.declared.refusals.DrainRefusal.TheVariants as refusal
 use Rattle.merge.specs.declared.next.Merged.{Merged}
-use Rattle.merge.specs.declared.drain.Verdict.{Verdict}
-use Rattle.merge.specs.declared.drain.Verdict.TheVariants as verdict
-use Rattle.merge.specs.declared.drain.DrainOutcome.TheVariants as outcome
-use Rattle.merge.specs.declared.drain.DrainRefusal.TheVariants as refusal
 use Rattle.merge.specs.declared.drain.Drained.{Drained}
 use Rattle.merge.specs.Parts.{inside, all_inside, table_ok, moved, no_part, start_of, taken_of}
 use Rattle.merge.specs.PartsLaws.{in_both, ok-both, both}
-use Rattle.merge.specs.Merge.{Foremost, none, some, refused, foremost, settle, next_of}
-use Rattle.merge.specs.MergeLaws.{next-ok, next_bad, at_count, taken-ok, falls, given_by}
+use Rattle.merge.specs.declared.heads.Head.{Head}
+use Rattle.merge.specs.Merge.{Answer, scan_at, Foremost, shown, head_of, first, foremost, front_of, settle, next_of}
+use Rattle.merge.specs.MergeLaws.{next-ok, at_count, taken-ok, falls, given_by}
 use Rattle.merge.specs.Rows.{listed, given}
-use Rattle.merge.specs.RowsLaws.{given-none}
-use Rattle.merge.specs.Drain.{judged_by, drained_by, left_in, left, drain_in, drain_of}
+use Rattle.merge.specs.RowsLaws.{given-none, bad_stays}
+use Rattle.merge.specs.Drain.{Leaving, judged, stop_of, judged_by, drained_by, left_in, left, drain_in, drain_of}
 use Rattle.merge.specs.DrainLaws.{enough, drain_bad}
 use Rattle.merge.specs.Sorted.{Leq, Sorted}
 use Rattle.merge.specs.Theorems.{Reads, ended, found, ReadsAll, empty, part, Gives, over, one, from_part, Started}
@@ -40,25 +43,26 @@ Holds image m ls = ReadsAll image 0 (take m.count m.parts) ls
 
 -- one call
 data Turn (image : List ℕ) (m : MergeScanner) (ls : List (List MergeEntry)) : Type 0 where
-  stops : (next_of m image).answer ≡ answer.End → ((j : ℕ) → get_or ls j [] ≡ []) → Turn image m ls
-  gives : {x : MergeEntry} {l : List MergeEntry} (k : ℕ) → (next_of m image).answer ≡ answer.Entry x → get_or ls k [] ≡ x ∷ l
+  stops : (next_of m image).answer ≡ Ok None → ((j : ℕ) → get_or ls j [] ≡ []) → Turn image m ls
+  gives : {x : MergeEntry} {l : List MergeEntry} (k : ℕ) → (next_of m image).answer ≡ Ok (Some x) → get_or ls k [] ≡ x ∷ l
       → ((j : ℕ) (y : MergeEntry) (r : List MergeEntry) → get_or ls j [] ≡ y ∷ r → Leq image x y)
       → table_ok (length image) (next_of m image).state ≡ true → Holds image (next_of m image).state (set ls k l) → Turn image m ls
 
 moved-parts : (n : ℕ) (ps : List Part) (j k : ℕ) → j < n → set (take n ps) j (moved k (get_or (take n ps) j no_part)) ≡ take n (set ps j (moved k (get_or ps j no_part)))
 moved-parts n ps j k h = ap (λ (q : Part). set (take n ps) j (moved k q)) (get_or-take n ps j no_part h) ∙ sym (take-set-lt n ps j (moved k (get_or ps j no_part)) h)
 
-turn_by : (image : List ℕ) (m : MergeScanner) (ls : List (List MergeEntry)) → table_ok (length image) m ≡ true → (f : Foremost) → foremost image 0 (take m.count m.parts) ≡ f → next_of m image ≡ settle m f
+turn_by : (image : List ℕ) (m : MergeScanner) (ls : List (List MergeEntry)) → table_ok (length image) m ≡ true → (f : Foremost) → front_of image m ≡ f → next_of m image ≡ settle m f
     → Front image 0 (take m.count m.parts) ls f → Turn image m ls
 unfolding settle taken_of
 turn_by image m ls ok f e q (blank d) = stops (ap (λ (r : Merged). r.answer) q) d
-turn_by image m ls ok f e q (taken {x} {k} {l} j g n least t) =
-    let z : x.part ≡ j = n ∙ zero-add j in
-    let a = at_count m image x k e in
+turn_by image m ls ok f e q (taken {x} {l} j g n least t) =
+    let k = x.next in
+    let z : x.entry.part ≡ j = n ∙ zero-add j in
+    let a = at_count m image x e in
     let b : j < m.count = omega arith in
-    let s : (next_of m image).state ≡ taken_of m x.part k = ap (λ (r : Merged). r.state) q in
+    let s : (next_of m image).state ≡ taken_of m x.entry.part k = ap (λ (r : Merged). r.state) q in
     gives j (ap (λ (r : Merged). r.answer) q) g least
-    (ap (table_ok (length image)) s ∙ taken-ok m image x k e ok)
+    (ap (table_ok (length image)) s ∙ taken-ok m image x e ok)
     (subst (λ (r : MergeScanner). Holds image r (set ls j l)) (sym s)
     (subst (λ (i : ℕ). ReadsAll image 0 (take m.count (set m.parts i (moved k (get_or m.parts i no_part)))) (set ls j l)) (sym z)
     (subst (λ (ps : List Part). ReadsAll image 0 ps (set ls j l)) (moved-parts m.count m.parts j k b) t)))
@@ -121,12 +125,12 @@ merge_sorted_lem image count parts ls s sorted out g =
     subst (Sorted image) (sym (gives_one g w.runs)) (merged_sorted w.merges sorted)
 
 -- every entry takes four bytes at least of those left
-given-by_answer : (image : List ℕ) (m : MergeScanner) (k : ℕ) (a : MergeAnswer) → (next_of m image).answer ≡ a → 4 * length (given k image (next_of m image).state) ≤ left (next_of m image).state
+given-by_answer : (image : List ℕ) (m : MergeScanner) (k : ℕ) (a : Answer) → (next_of m image).answer ≡ a → 4 * length (given k image (next_of m image).state) ≤ left (next_of m image).state
     → 4 * length (listed a (given k image (next_of m image).state)) ≤ left m
 unfolding listed
-given-by_answer image m k (answer.Entry x) e h = let f = falls m image x e in omega arith
-given-by_answer image m k answer.End e h = omega arith
-given-by_answer image m k (answer.Refused w) e h = omega arith
+given-by_answer image m k (Ok (Some x)) e h = let f = falls m image x e in omega arith
+given-by_answer image m k (Ok None) e h = omega arith
+given-by_answer image m k (Err w) e h = omega arith
 
 by_left : (k : ℕ) (image : List ℕ) (m : MergeScanner) → 4 * length (given k image m) ≤ left m
 unfolding given
@@ -153,8 +157,7 @@ by_image image m k true h =
     let s : m.count * length image ≤ 16 * length image = mul-le-mul_right (length image) b.0 in
     omega arith
 by_image image m k false h =
-    let e = next_bad m image h in
-    let n = given-none image m _ e (λ x d. let o : ◌≡◌ {A = ℕ} 0 1 = cc in omega arith) k in
+    let n = given-none image m (bad_stays image m h) k in
     rw n (omega arith)
 
 pub merge_bounded_lem : MergeBounded
@@ -162,39 +165,84 @@ merge_bounded_lem image m k = (by_left k image m, by_image image m k _ refl)
 
 -- A sound table stays one, so 13 is given of the state that came in or never.
 
-answer_ok : (m : MergeScanner) (f : Foremost) → (settle m f).answer ≡ answer.Refused merge.BadPart → ⊥
-unfolding settle
-answer_ok m none h = let o : ◌≡◌ {A = ℕ} 0 1 = cc in omega arith
-answer_ok m (some x k) h = let o : ◌≡◌ {A = ℕ} 0 1 = cc in omega arith
-answer_ok m (refused i w) h = let o : ◌≡◌ {A = ℕ} 0 1 = cc in omega arith
+abbrev NotBad : Foremost → Type 0
+NotBad f = f ≡ Err merge.BadPart → ⊥
 
-next_sound : (image : List ℕ) (m : MergeScanner) (x : MergeEntry) → table_ok (length image) m ≡ true → (next_of m image).answer ≡ answer.Entry x → table_ok (length image) (next_of m image).state ≡ true
-next_sound image m x t h = let g = given_by m image x h in ap (table_ok (length image)) g.state ∙ taken-ok m image x g.k g.front t
+shown-ok : (i : ℕ) (p : Part) (s : Scanned) → NotBad (shown i p s)
+unfolding shown
+shown-ok i p (scanned.Entry e n) h = let o : ◌≡◌ {A = ℕ} 0 1 = cc in omega arith
+shown-ok i p (scanned.End at n) h = let o : ◌≡◌ {A = ℕ} 0 1 = cc in omega arith
+shown-ok i p (scanned.Refused w n) h = let o : ◌≡◌ {A = ℕ} 0 1 = cc in omega arith
+
+pick-ok : (t : Bool) (x y : Head) → NotBad (pick t (Ok (Some x)) (Ok (Some y)))
+unfolding pick
+pick-ok true x y h = let o : ◌≡◌ {A = ℕ} 0 1 = cc in omega arith
+pick-ok false x y h = let o : ◌≡◌ {A = ℕ} 0 1 = cc in omega arith
+
+first-ok : (image : List ℕ) (a b : Foremost) → NotBad a → NotBad b → NotBad (first image a b)
+unfolding first
+first-ok image (Ok None) b p q = q
+first-ok image (Err w) b p q = p
+first-ok image (Ok (Some x)) (Ok None) p q = p
+first-ok image (Ok (Some x)) (Err w) p q = q
+first-ok image (Ok (Some x)) (Ok (Some y)) p q = pick-ok _ x y
+
+front-ok : (image : List ℕ) (i : ℕ) (ps : List Part) → NotBad (foremost image i ps)
+unfolding foremost head_of
+front-ok image i [] h = let o : ◌≡◌ {A = ℕ} 0 1 = cc in omega arith
+front-ok image i (p ∷ ps) h = first-ok image _ _ (shown-ok i p (scan_at image p)) (front-ok image (suc i) ps) h
+
+answer_ok : (m : MergeScanner) (f : Foremost) → NotBad f → (settle m f).answer ≡ Err merge.BadPart → ⊥
+unfolding settle
+answer_ok m (Ok None) n h = let o : ◌≡◌ {A = ℕ} 0 1 = cc in omega arith
+answer_ok m (Ok (Some x)) n h = let o : ◌≡◌ {A = ℕ} 0 1 = cc in omega arith
+answer_ok m (Err w) n h = let z : w ≡ merge.BadPart = cc in n (rw z)
+
+next_sound : (image : List ℕ) (m : MergeScanner) (x : MergeEntry) → table_ok (length image) m ≡ true → (next_of m image).answer ≡ Ok (Some x) → table_ok (length image) (next_of m image).state ≡ true
+next_sound image m x t h = let g = given_by m image x h in ap (table_ok (length image)) g.state ∙ taken-ok m image g.head g.front t
+
+abbrev OfBad : Leaving → Type 0
+OfBad o = o ≡ Err (refusal.Merge merge.BadPart)
+
+-- no verdict on an entry is 13
+verdict-ok : (a b c : Bool) (o : Leaving) → pick a (pick b (Some (Ok outcome.Found)) (pick c (Some (Ok outcome.Past)) None)) None ≡ Some o → OfBad o → ⊥
+unfolding pick
+verdict-ok true true c o e h = let q : ◌≡◌ {A = Leaving} (Ok outcome.Found) o = cc in let z : ◌≡◌ {A = Leaving} (Ok outcome.Found) (Err (refusal.Merge merge.BadPart)) = q ∙ h in let o : ◌≡◌ {A = ℕ} 0 1 = cc in omega arith
+verdict-ok true false true o e h = let q : ◌≡◌ {A = Leaving} (Ok outcome.Past) o = cc in let z : ◌≡◌ {A = Leaving} (Ok outcome.Past) (Err (refusal.Merge merge.BadPart)) = q ∙ h in let o : ◌≡◌ {A = ℕ} 0 1 = cc in omega arith
+verdict-ok true false false o e h = let z : ◌≡◌ {A = ℕ} 0 1 = cc in omega arith
+verdict-ok false b c o e h = let z : ◌≡◌ {A = ℕ} 0 1 = cc in omega arith
+
+judged-ok : (w : Ordering) (x : MergeEntry) (handle : ValueHandle) (o : Leaving) → judged w x handle ≡ Some o → OfBad o → ⊥
+unfolding judged
+judged-ok Less x handle o e h = let z : ◌≡◌ {A = ℕ} 0 1 = cc in omega arith
+judged-ok Greater x handle o e h = let q : ◌≡◌ {A = Leaving} (Err refusal.NotMatched) o = cc in let z : ◌≡◌ {A = Leaving} (Err refusal.NotMatched) (Err (refusal.Merge merge.BadPart)) = q ∙ h in let o : ◌≡◌ {A = ℕ} 0 1 = cc in omega arith
+judged-ok Equal x handle o e h = verdict-ok _ _ _ o e h
 
 module _ (image key : List ℕ) (handle : ValueHandle) where
-  not_judged : (m : MergeScanner) (rest : Drained) (v : Verdict) → (rest.outcome ≡ outcome.Refused refusal.BadPart → ⊥) → (judged_by m rest v).outcome ≡ outcome.Refused refusal.BadPart → ⊥
+  not_judged : (m : MergeScanner) (rest : Drained) (v : Option Leaving) → ((o : Leaving) → v ≡ Some o → OfBad o → ⊥) → (OfBad rest.outcome → ⊥) → OfBad (judged_by m rest v).outcome → ⊥
   unfolding judged_by
-  not_judged m rest verdict.Skip f h = f h
-  not_judged m rest verdict.Found f h = let o : ◌≡◌ {A = ℕ} 0 1 = cc in omega arith
-  not_judged m rest verdict.Past f h = let o : ◌≡◌ {A = ℕ} 0 1 = cc in omega arith
-  not_judged m rest verdict.Above f h = let o : ◌≡◌ {A = ℕ} 0 1 = cc in omega arith
+  not_judged m rest None n f h = f h
+  not_judged m rest (Some o) n f h = n o refl h
 
-  not_drained : (m : MergeScanner) (rest : Drained) (a : MergeAnswer) → ((x : MergeEntry) → a ≡ answer.Entry x → rest.outcome ≡ outcome.Refused refusal.BadPart → ⊥) → (a ≡ answer.Refused merge.BadPart → ⊥)
-      → (drained_by image key handle m rest a).outcome ≡ outcome.Refused refusal.BadPart → ⊥
+  not_stopped : (x : MergeEntry) (o : Leaving) → stop_of image x key handle ≡ Some o → OfBad o → ⊥
+  unfolding stop_of
+  not_stopped x o e h = judged-ok _ x handle o e h
+
+  not_drained : (m : MergeScanner) (rest : Drained) (a : Answer) → ((x : MergeEntry) → a ≡ Ok (Some x) → OfBad rest.outcome → ⊥) → (a ≡ Err merge.BadPart → ⊥)
+      → OfBad (drained_by image key handle m rest a).outcome → ⊥
   unfolding drained_by
-  not_drained m rest (answer.Entry x) f g h = not_judged m rest _ (f x refl) h
-  not_drained m rest answer.End f g h = let o : ◌≡◌ {A = ℕ} 0 1 = cc in omega arith
-  not_drained m rest (answer.Refused merge.BadPart) f g h = g refl
-  not_drained m rest (answer.Refused (merge.Scan i w)) f g h = let o : ◌≡◌ {A = ℕ} 0 1 = cc in omega arith
+  not_drained m rest (Ok (Some x)) f g h = not_judged m rest _ (not_stopped x) (f x refl) h
+  not_drained m rest (Ok None) f g h = let o : ◌≡◌ {A = ℕ} 0 1 = cc in omega arith
+  not_drained m rest (Err w) f g h = let z : w ≡ merge.BadPart = cc in g (rw z)
 
-  never_bad : (k : ℕ) (m : MergeScanner) → table_ok (length image) m ≡ true → (drain_in k image key handle m).outcome ≡ outcome.Refused refusal.BadPart → ⊥
+  never_bad : (k : ℕ) (m : MergeScanner) → table_ok (length image) m ≡ true → OfBad (drain_in k image key handle m).outcome → ⊥
   unfolding drain_in
   never_bad zero m t h = let o : ◌≡◌ {A = ℕ} 0 1 = cc in omega arith
   never_bad (suc k) m t h = not_drained m _ (next_of m image).answer
       (λ x e. never_bad k (next_of m image).state (next_sound image m x t e))
-      (λ e. answer_ok m _ (sym (ap (λ (r : Merged). r.answer) (next-ok m image t)) ∙ e)) h
+      (λ e. answer_ok m _ (front-ok image 0 (take m.count m.parts)) (sym (ap (λ (r : Merged). r.answer) (next-ok m image t)) ∙ e)) h
 
-  bad_by : (m : MergeScanner) (b : Bool) → table_ok (length image) m ≡ b → (drain_of m image key handle).outcome ≡ outcome.Refused refusal.BadPart → (table_ok (length image) m ≡ false) × ((drain_of m image key handle).state ≡ m)
+  bad_by : (m : MergeScanner) (b : Bool) → table_ok (length image) m ≡ b → (drain_of m image key handle).outcome ≡ Err (refusal.Merge merge.BadPart) → (table_ok (length image) m ≡ false) × ((drain_of m image key handle).state ≡ m)
   unfolding drain_of
   bad_by m true t h = absurd (never_bad (suc (left m)) m t h)
   bad_by m false t h = (t, ap (λ (d : Drained). d.state) (drain_bad image key handle m t))

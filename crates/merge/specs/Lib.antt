@@ -8,13 +8,12 @@ pub mod Refusals
 pub mod Marked
 pub mod Theorems
 pub mod Pass
-pub mod DrainShape
-pub mod MergeLaws
 pub mod Sorted
+pub mod MergeLaws
 pub mod SortedLaws
+pub mod OrderLaws
+pub mod PartsLaws
 pub mod PassLaws
 pub mod TournamentLaws
 pub mod RowsLaws
 pub mod DrainLaws
-pub mod OrderLaws
-pub mod PartsLaws

@@ -1,7 +1,7 @@
 -- T7 and T8 of document 01's marked examples, of the definitions.
 use Rattle.std.specs.Prelude.{ℕ, ◌≡◌, refl, [], ◌∷◌, true, false}
 use Rattle.numbers.specs.Pick.{pick}
-use Rattle.merge.specs.declared.order.Order.TheVariants.{Less, Equal}
+use Rattle.std.specs.declared.cmp.Ordering.TheVariants.{Less, Equal}
 use Rattle.merge.specs.Order.{order_of}
 use Rattle.merge.specs.Merge.{ranked}
 

@@ -1,20 +1,20 @@
 -- What a call of the merge answers: document 01, "The merge and the drain".
-use Rattle.std.specs.Prelude.{ℕ, suc, ◌+◌, refl, List, [], ◌∷◌, Bool, true, false, ltb, eqb, length, take, drop}
+use Rattle.std.specs.Prelude.{ℕ, suc, ◌+◌, refl, List, [], ◌∷◌, Bool, true, false, ltb, eqb, length, take, drop, Option, Some, None, Result, Ok, Err}
+use Rattle.std.specs.declared.cmp.Ordering.{Ordering}
+use Rattle.std.specs.declared.cmp.Ordering.TheVariants.{Less, Equal, Greater}
 use Rattle.numbers.specs.Pick.{pick}
 use Rattle.frames.specs.Scan.{going, part_at, step_of}
 use Rattle.frames.specs.declared.place.Place.{Place}
 use Rattle.frames.specs.declared.scanner.ScanEntry.{ScanEntry}
-use Rattle.frames.specs.declared.scanner.ScanRefusal.{ScanRefusal}
-use Rattle.frames.specs.declared.scanner.Scanned.{Scanned}
-use Rattle.frames.specs.declared.scanner.Scanned.TheVariants as scanned
+use Rattle.frames.specs.Scan.{Scanned}
+use Rattle.frames.specs.declared.scanner.Step.TheVariants as scanned
 use Rattle.merge.specs.declared.parts.Part.{Part}
 use Rattle.merge.specs.declared.parts.MergeScanner.{MergeScanner}
-use Rattle.merge.specs.declared.order.Order.{Order}
-use Rattle.merge.specs.declared.order.Order.TheVariants.{Less, Equal, Greater}
+use Rattle.merge.specs.declared.heads.Head.{Head}
 use Rattle.merge.specs.declared.heads.MergeEntry.{MergeEntry}
-use Rattle.merge.specs.declared.next.MergeAnswer.TheVariants as answer
-use Rattle.merge.specs.declared.next.MergeRefusal.TheVariants as refusal
 use Rattle.merge.specs.declared.next.Merged.{Merged}
+use Rattle.merge.specs.declared.refusals.MergeRefusal.{MergeRefusal}
+use Rattle.merge.specs.declared.refusals.MergeRefusal.TheVariants as refusal
 use Rattle.merge.specs.Order.{order_of}
 use Rattle.merge.specs.Parts.{table_ok, taken_of}
 use Rattle.merge.specs.Refusals.{of_part, refuse_merge}
@@ -40,7 +40,7 @@ entry_of i p e = record {
 }
 
 -- "equal keys by seqno, larger first, compared as numbers; equal both, lower part number first"
-unfoldable pub ranked : Order → ℕ → ℕ → ℕ → ℕ → Bool
+unfoldable pub ranked : Ordering → ℕ → ℕ → ℕ → ℕ → Bool
 ranked Less seqno part seqno' part' = true
 ranked Greater seqno part seqno' part' = false
 ranked Equal seqno part seqno' part' = pick (eqb seqno seqno') (ltb part part') (ltb seqno' seqno)
@@ -49,39 +49,49 @@ ranked Equal seqno part seqno' part' = pick (eqb seqno seqno') (ltb part part') 
 unfoldable pub ahead : List ℕ → MergeEntry → MergeEntry → Bool
 ahead image x y = ranked (order_of (part_at image x.key) (part_at image y.key)) x.seqno x.part y.seqno y.part
 
--- what goes first: an entry with the position after it, or the refusal of a part
-pub data Foremost : Type 0 where
-  none : Foremost
-  some : MergeEntry → ℕ → Foremost
-  refused : ℕ → ScanRefusal → Foremost
+-- what goes first: an entry with the position after it, or none, or the refusal of a part
+abbrev pub Foremost : Type 0
+Foremost = Result (Option Head) MergeRefusal
 
 -- what the scan of part i shows
 unfoldable pub shown : ℕ → Part → Scanned → Foremost
-shown i p (scanned.Entry e next) = some (entry_of i p e) next.at
-shown i p (scanned.End at next) = none
-shown i p (scanned.Refused why next) = refused i why
+shown i p (scanned.Entry e next) = Ok (Some (record { entry = entry_of i p e; next = next.at }))
+shown i p (scanned.End at next) = Ok None
+shown i p (scanned.Refused why next) = refuse_merge (of_part i why) (refusal.Scan i why) refl
+
+-- what part i shows at its position
+unfoldable pub head_of : List ℕ → ℕ → Part → Foremost
+head_of image i p = shown i p (scan_at image p)
 
 -- which of two goes first, the lower part's given first: "the lowest refusing part speaks", and of two entries the one ahead
 unfoldable pub first : List ℕ → Foremost → Foremost → Foremost
-first image none b = b
-first image (refused i why) b = refused i why
-first image (some x next) none = some x next
-first image (some x next) (refused i why) = refused i why
-first image (some x next) (some y next') = pick (ahead image x y) (some x next) (some y next')
+first image (Ok None) b = b
+first image (Err why) b = Err why
+first image (Ok (Some x)) (Ok None) = Ok (Some x)
+first image (Ok (Some x)) (Err why) = Err why
+first image (Ok (Some x)) (Ok (Some y)) = pick (ahead image x.entry y.entry) (Ok (Some x)) (Ok (Some y))
 
 -- what goes first of the parts from number i on
 unfoldable pub foremost : List ℕ → ℕ → List Part → Foremost
-foremost image i [] = none
-foremost image i (p ∷ ps) = first image (shown i p (scan_at image p)) (foremost image (suc i) ps)
+foremost image i [] = Ok None
+foremost image i (p ∷ ps) = first image (head_of image i p) (foremost image (suc i) ps)
+
+-- what goes first of all parts
+abbrev pub front_of : List ℕ → MergeScanner → Foremost
+front_of image m = foremost image 0 (take m.count m.parts)
+
+-- what a call answers: an entry, or none at the end
+abbrev pub Answer : Type 0
+Answer = Result (Option MergeEntry) MergeRefusal
 
 -- the entry that goes first is taken; "a merge refusal hands the merge state back"
 unfoldable pub settle : MergeScanner → Foremost → Merged
-settle m none = record { state = m; answer = answer.End }
-settle m (some x next) = record { state = taken_of m x.part next; answer = answer.Entry x }
-settle m (refused i why) = record { state = m; answer = refuse_merge (of_part i why) (refusal.Scan i why) refl }
+settle m (Ok None) = record { state = m; answer = Ok None }
+settle m (Ok (Some x)) = record { state = taken_of m x.entry.part x.next; answer = Ok (Some x.entry) }
+settle m (Err why) = record { state = m; answer = Err why }
 
 -- one call; a malformed "part table (13) comes before all else"
 unfoldable pub next_of : MergeScanner → List ℕ → Merged
 next_of m image =
-    pick (table_ok (length image) m) (settle m (foremost image 0 (take m.count m.parts)))
+    pick (table_ok (length image) m) (settle m (front_of image m))
     (record { state = m; answer = refuse_merge (13 ∷ []) refusal.BadPart refl })

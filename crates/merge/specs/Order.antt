@@ -1,11 +1,11 @@
 -- The order of keys: document 01, "The merge and the drain".
 use Rattle.std.specs.Prelude.{ℕ, List, [], ◌∷◌, ltb}
+use Rattle.std.specs.declared.cmp.Ordering.{Ordering}
+use Rattle.std.specs.declared.cmp.Ordering.TheVariants.{Less, Equal, Greater}
 use Rattle.numbers.specs.Pick.{pick}
-use Rattle.merge.specs.declared.order.Order.{Order}
-use Rattle.merge.specs.declared.order.Order.TheVariants.{Less, Equal, Greater}
 
 -- "as byte strings with a prefix before the longer"
-unfoldable pub order_of : List ℕ → List ℕ → Order
+unfoldable pub order_of : List ℕ → List ℕ → Ordering
 order_of [] [] = Equal
 order_of [] (y ∷ b) = Less
 order_of (x ∷ a) [] = Greater

@@ -1,5 +1,6 @@
 -- The table of parts: document 01, "The merge and the drain", and refusal 13.
-use Rattle.std.specs.Prelude.{ℕ, ◌+◌, List, [], ◌∷◌, map, Bool, true, ◌&&◌, leb, take, get_or, set}
+use Rattle.std.specs.Prelude.{ℕ, ◌+◌, List, map, Bool, ◌&&◌, leb, take, get_or, set}
+use Rattle.std.specs.List.{list_all}
 use Rattle.merge.specs.declared.parts.Part.{Part}
 use Rattle.merge.specs.declared.parts.MergeScanner.{MergeScanner}
 
@@ -8,9 +9,8 @@ unfoldable pub inside : ℕ → Part → Bool
 inside size p = leb (p.start + p.length) size && leb p.at p.length
 
 -- so are all of these
-unfoldable pub all_inside : ℕ → List Part → Bool
-all_inside size [] = true
-all_inside size (p ∷ ps) = inside size p && all_inside size ps
+abbrev pub all_inside : ℕ → List Part → Bool
+all_inside size ps = list_all (inside size) ps
 
 -- not "more than 16 parts", and every part inside: else 13
 unfoldable pub table_ok : ℕ → MergeScanner → Bool

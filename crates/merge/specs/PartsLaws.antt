@@ -1,16 +1,15 @@
 -- Laws of the table of parts, in the shape of the tests.
 use Prim.Native.Nat.{ℕ, zero, suc, ◌+◌, ◌-◌, ◌<◌, ◌≤◌}
-use Rattle.std.specs.Prelude.{◌≡◌, Bool, true, false, ◌&&◌, leb, take, drop, get_or, set}
-use Rattle.std.proofs.Math.Path.{refl, sym}
-use Rattle.std.proofs.Common.{ap, ◌∙◌, add-one, drop_of_length-le}
-use mathlib.Core.List.{List, [], ◌∷◌, map}
+use Rattle.std.specs.Prelude.{◌≡◌, Bool, true, false, ◌&&◌, leb, take, get_or, set}
+use Rattle.std.proofs.Math.Path.{refl}
+use Rattle.std.proofs.Common.{◌∙◌}
+use mathlib.Core.List.{List, [], ◌∷◌}
 use native.Mathlib.Omega.{arith}
 use borrow.Author.Tests.{lt-leb, le-leb, leb-true}
 use Rattle.std.proofs.Math.ListN.{length}
-use Rattle.std.proofs.Math.Seq.{drop-cons, get_or-take, length-take-le, set_out}
 use Rattle.merge.specs.declared.parts.Part.{Part}
 use Rattle.merge.specs.declared.parts.MergeScanner.{MergeScanner}
-use Rattle.merge.specs.Parts.{inside, all_inside, table_ok, moved, no_part, taken_of}
+use Rattle.merge.specs.Parts.{inside, all_inside, table_ok, no_part}
 
 pub both : (a b : Bool) → (a && b) ≡ true → (a ≡ true) × (b ≡ true)
 both true true h = (refl, refl)
@@ -39,24 +38,6 @@ module _ (size : ℕ) (p : Part) where
   unfolding inside
   both_in f g = rw (le-leb _ _ f, le-leb _ _ g)
 
-module _ (size : ℕ) (ps : List Part) (n i : ℕ) (l : n ≤ length ps) (whole : all_inside size (drop i (take n ps)) ≡ all_inside size (take n ps)) where
-  module _ (h : i < n) (t : Bool) (e : t ≡ inside size (get_or ps i no_part)) where
-    opened : all_inside size (take n ps) ≡ (t && all_inside size (drop (suc i) (take n ps)))
-    unfolding all_inside
-    opened =
-        let d = drop-cons (take n ps) i no_part (omega (arith, length-take-le n ps l)) in
-        sym whole ∙ rw (d, get_or-take n ps i no_part h, ← e)
-
-    pub in_on : t ≡ true → all_inside size (drop (i + 1) (take n ps)) ≡ all_inside size (take n ps)
-    in_on f = rw add-one (sym (opened ∙ rw f))
-
-    pub in_out : t ≡ false → all_inside size (take n ps) ≡ false
-    in_out f = opened ∙ rw f
-
-  pub in_end : n ≤ i → all_inside size (take n ps) ≡ true
-  unfolding all_inside
-  in_end h = let q : length (take n ps) ≤ i = omega (arith, length-take-le n ps l) in sym whole ∙ rw (drop_of_length-le (take n ps) q)
-
 module _ (size : ℕ) (m : MergeScanner) where
   pub ok-many : 16 < m.count → table_ok size m ≡ false
   unfolding table_ok
@@ -75,7 +56,6 @@ module _ (size : ℕ) (m : MergeScanner) where
 
 module _ (size : ℕ) where
   in_split : (p : Part) (l : List Part) → all_inside size (p ∷ l) ≡ true → (inside size p ≡ true) × (all_inside size l ≡ true)
-  unfolding all_inside
   in_split p l h = both (inside size p) (all_inside size l) h
 
   pub in_get : (n : ℕ) (ps : List Part) (k : ℕ) → all_inside size (take n ps) ≡ true → k < n → k < length ps → inside size (get_or ps k no_part) ≡ true
@@ -85,31 +65,7 @@ module _ (size : ℕ) where
   in_get (suc n) (p ∷ ps) (suc k) h a b = in_get n ps k (in_split p (take n ps) h).1 (omega arith) (omega arith)
 
   pub in_set : (n : ℕ) (ps : List Part) (k : ℕ) (q : Part) → inside size q ≡ true → all_inside size (take n ps) ≡ true → all_inside size (take n (set ps k q)) ≡ true
-  unfolding all_inside
   in_set zero ps k q s h = refl
   in_set (suc n) [] k q s h = refl
   in_set (suc n) (p ∷ ps) zero q s h = let i = (in_split p (take n ps) h).1 in rw (s, i)
   in_set (suc n) (p ∷ ps) (suc k) q s h = let i = in_split p (take n ps) h in let r = in_set n ps k q s i.1 in let j = i.0 in rw (j, r)
-
-pub taken_none : (m : MergeScanner) (k next : ℕ) → length m.parts ≤ k → taken_of m k next ≡ m
-unfolding taken_of
-taken_none m k next h = rw (set_out _ _ _ h)
-
--- the first n parts set back
-unfoldable pub reset_in : ℕ → List Part → List Part
-reset_in zero ps = ps
-reset_in (suc n) [] = []
-reset_in (suc n) (p ∷ ps) = moved 0 p ∷ reset_in n ps
-
-pub reset_on : (ps : List Part) (i : ℕ) → i < length ps → set (reset_in i ps) i (moved 0 (get_or (reset_in i ps) i no_part)) ≡ reset_in (suc i) ps
-unfolding reset_in
-reset_on [] i h = absurd (omega arith)
-reset_on (p ∷ ps) zero h = refl
-reset_on (p ∷ ps) (suc i) h = ap (λ (r : List Part). moved 0 p ∷ r) (reset_on ps i (omega arith))
-
-pub reset_all : (n : ℕ) (ps : List Part) → length ps ≡ n → reset_in n ps ≡ map (moved 0) ps
-unfolding reset_in
-reset_all zero [] h = refl
-reset_all zero (p ∷ ps) h = absurd (omega arith)
-reset_all (suc n) [] h = refl
-reset_all (suc n) (p ∷ ps) h = ap (λ (r : List Part). moved 0 p ∷ r) (reset_all n ps (omega arith))

@@ -1,70 +1,79 @@
 -- Laws of one pass that writes rows: its cases, and one row more.
-use Prim.Native.Nat.{ℕ, zero, suc, ◌+◌, ◌*◌, ◌-◌, ◌/◌, ◌<◌, ◌≤◌}
-use Rattle.std.proofs.Math.Path.{◌≡◌, refl, ap}
-use Rattle.std.proofs.Common.{sym, ◌∙◌, lt-ltb, le-ltb, leb-true, leb-false}
-use Rattle.std.specs.Prelude.{List, [], ◌∷◌, ◌++◌, Bool, true, false, ltb, leb, length, set}
-use native.Mathlib.Omega.{arith}
+use Rattle.std.specs.Prelude.{set, ℕ, zero, suc, ◌+◌, ◌*◌, ◌-◌, ◌<◌, ◌≤◌, ◌≡◌, refl, List, [], ◌∷◌, ◌++◌, Bool, true, false, ltb, leb, length, Option, Some, None, Result, Ok, Err, IsErrAnd}
+use Rattle.std.proofs.Common.{sym, ap, subst, ◌∙◌, arith, lt-ltb, le-ltb, leb-true, leb-false}
 use Rattle.std.proofs.lemmas.List.Edits.{sets}
 use Rattle.std.proofs.Math.Seq.{length-sets}
 use Rattle.numbers.specs.Pick.{pick}
 use Rattle.numbers.specs.LeLaws.{sets-append}
-use Rattle.frames.specs.declared.scanner.ScanRefusal.{ScanRefusal}
 use Rattle.merge.specs.declared.parts.MergeScanner.{MergeScanner}
 use Rattle.merge.specs.declared.heads.MergeEntry.{MergeEntry}
-use Rattle.merge.specs.declared.next.MergeAnswer.{MergeAnswer}
-use Rattle.merge.specs.declared.next.MergeAnswer.TheVariants as answer
-use Rattle.merge.specs.declared.next.MergeRefusal.{MergeRefusal}
-use Rattle.merge.specs.declared.next.MergeRefusal.TheVariants as refusal
 use Rattle.merge.specs.declared.next.Merged.{Merged}
-use Rattle.merge.specs.declared.rows.RowsAnswer.{RowsAnswer}
-use Rattle.merge.specs.declared.rows.RowsAnswer.TheVariants as rows
-use Rattle.merge.specs.declared.rows.RowsRefusal.TheVariants as rows-refusal
+use Rattle.merge.specs.declared.refusals.MergeRefusal.{MergeRefusal}
+use Rattle.merge.specs.declared.refusals.MergeRefusal.TheVariants as merge
+use Rattle.merge.specs.declared.refusals.RowsRefusal.TheVariants as refusal
 use Rattle.merge.specs.Parts.{table_ok}
-use Rattle.merge.specs.Merge.{next_of}
-use Rattle.merge.specs.MergeLaws.{next_bad}
-use Rattle.merge.specs.Rows.{row_of, rows_of, listed, given, after, rows_said, whole_rows, rowed_of, rowed_in}
+use Rattle.merge.specs.Merge.{Answer, Foremost, front_of, next_of}
+use Rattle.merge.specs.MergeLaws.{next_bad, next_takes, next_ends, next_refused}
+use Rattle.merge.specs.Rows.{row_of, rows_of, listed, given, after, RowsAnswer, rows_said, whole_rows, Wrote, rowed_of, rowed_in}
 
-module _ (a : MergeAnswer) (fits : Bool) (n : ℕ) where
-  pub said_rows : (x : MergeEntry) → a ≡ answer.Entry x → fits ≡ true → rows_said a fits n ≡ rows.Rows n
-  unfolding rows_said pick
-  said_rows x h g = rw (h, g)
+module _ {T : Type 0} (a : Result (Option T) MergeRefusal) (fits : Bool) (n : ℕ) where
+  module _ (o : Option T) (h : a ≡ Ok o) where
+    pub said_rows : (x : T) → o ≡ Some x → fits ≡ true → Ok (Some n) ≡ rows_said a fits n
+    unfolding rows_said pick
+    said_rows x q g = rw (h, q, g)
 
-  pub said_full : (x : MergeEntry) → a ≡ answer.Entry x → fits ≡ false → rows_said a fits n ≡ rows.Refused rows-refusal.NoRoom
-  unfolding rows_said pick
-  said_full x h g = rw (h, g)
+    pub said_full : (x : T) → o ≡ Some x → fits ≡ false → Err refusal.NoRoom ≡ rows_said a fits n
+    unfolding rows_said pick
+    said_full x q g = rw (h, q, g)
 
-  pub said_end : a ≡ answer.End → rows_said a fits n ≡ rows.End
+    pub said_end : o ≡ None → Ok None ≡ rows_said a fits n
+    unfolding rows_said
+    said_end q = rw (h, q)
+
+  refused-same : (w : MergeRefusal) (r : RowsAnswer) → IsErrAnd r (λ e. e ≡ refusal.Merge w) → r ≡ Err (refusal.Merge w)
+  refused-same w (Ok x) i = absurd i
+  refused-same w (Err e) i = rw i
+
+  pub said_refused : (w : MergeRefusal) (r : RowsAnswer) → a ≡ Err w → IsErrAnd r (λ e. e ≡ refusal.Merge w) → r ≡ rows_said a fits n
   unfolding rows_said
-  said_end h = rw h
+  said_refused w r h i = rw h (refused-same w r i)
 
-  pub said_bad : (w : MergeRefusal) → a ≡ answer.Refused w → w ≡ refusal.BadPart → rows_said a fits n ≡ rows.Refused rows-refusal.BadPart
-  unfolding rows_said
-  said_bad w h g = rw (h, g)
+-- a call that gives no entry changes nothing
+pub record Stays (image : List ℕ) (m : MergeScanner) : Type 0 where
+  pub same : (next_of m image).state ≡ m
+  pub blank : (x : MergeEntry) → (next_of m image).answer ≡ Ok (Some x) → ⊥
 
-  pub said_scan : (w : MergeRefusal) (i : ℕ) {why : ScanRefusal} → a ≡ answer.Refused w → w ≡ refusal.Scan i why → rows_said a fits n ≡ rows.Refused (rows-refusal.Scan i why)
-  unfolding rows_said
-  said_scan w i h g = rw (h, g)
+pub stays : (image : List ℕ) (m : MergeScanner) (a : Answer) → next_of m image ≡ record { state = m; answer = a } → ((x : MergeEntry) → a ≡ Ok (Some x) → ⊥) → Stays image m
+stays image m a e nay = record { same = ap (λ (r : Merged). r.state) e; blank = λ x h. nay x (sym (ap (λ (r : Merged). r.answer) e) ∙ h) }
 
--- calls that give no entry change nothing
-module _ (image : List ℕ) (m : MergeScanner) (a : MergeAnswer) (e : next_of m image ≡ record { state = m; answer = a }) (nay : (x : MergeEntry) → a ≡ answer.Entry x → ⊥) where
-  listed-none : (b : MergeAnswer) (l : List MergeEntry) → ((x : MergeEntry) → b ≡ answer.Entry x → ⊥) → listed b l ≡ []
+pub bad_stays : (image : List ℕ) (m : MergeScanner) → table_ok (length image) m ≡ false → Stays image m
+bad_stays image m t = stays image m _ (next_bad m image t) (λ x h. let o : ◌≡◌ {A = ℕ} 0 1 = cc in omega arith)
+
+pub end_stays : (image : List ℕ) (m : MergeScanner) → table_ok (length image) m ≡ true → front_of image m ≡ Ok None → Stays image m
+end_stays image m t f = stays image m _ (next_ends m image t f) (λ x h. let o : ◌≡◌ {A = ℕ} 0 1 = cc in omega arith)
+
+pub refused_stays : (image : List ℕ) (m : MergeScanner) → table_ok (length image) m ≡ true → (w : MergeRefusal) → front_of image m ≡ Err w → Stays image m
+refused_stays image m t w f = stays image m _ (next_refused m image t w f) (λ x h. let o : ◌≡◌ {A = ℕ} 0 1 = cc in omega arith)
+
+module _ (image : List ℕ) (m : MergeScanner) (s : Stays image m) where
+  listed-none : (b : Answer) (l : List MergeEntry) → ((x : MergeEntry) → b ≡ Ok (Some x) → ⊥) → listed b l ≡ []
   unfolding listed
-  listed-none (answer.Entry x) l n = absurd (n x refl)
-  listed-none answer.End l n = refl
-  listed-none (answer.Refused w) l n = refl
+  listed-none (Ok (Some x)) l n = absurd (n x refl)
+  listed-none (Ok None) l n = refl
+  listed-none (Err w) l n = refl
 
   pub given-none : (k : ℕ) → given k image m ≡ []
   unfolding given
   given-none zero = refl
-  given-none (suc k) = listed-none _ _ (λ x h. nay x (sym (ap (λ (r : Merged). r.answer) e) ∙ h))
+  given-none (suc k) = listed-none _ _ s.blank
 
   pub after_same : (k : ℕ) → after k image m ≡ m
   unfolding after
   after_same zero = refl
-  after_same (suc k) = ap (after k image) (ap (λ (r : Merged). r.state) e) ∙ after_same k
+  after_same (suc k) = ap (after k image) s.same ∙ after_same k
 
 -- a call that gives an entry
-module _ (image : List ℕ) (m s : MergeScanner) (x : MergeEntry) (e : next_of m image ≡ record { state = s; answer = answer.Entry x }) where
+module _ (image : List ℕ) (m s : MergeScanner) (x : MergeEntry) (e : next_of m image ≡ record { state = s; answer = Ok (Some x) }) where
   pub given-more : (k : ℕ) → given (suc k) image m ≡ x ∷ given k image s
   unfolding given listed
   given-more k = ap (λ (r : Merged). listed r.answer (given k image r.state)) e
@@ -74,81 +83,60 @@ module _ (image : List ℕ) (m s : MergeScanner) (x : MergeEntry) (e : next_of m
   after_more k = ap (λ (r : Merged). after k image r.state) e
 
 -- the loop that writes rows: what is left, done on what is there, is the whole
-abbrev pub left_rows : List ℕ → ℕ → ℕ
-left_rows b₀ to = (length b₀ - to) / 9
-
-pub record Writing (image : List ℕ) (m₀ : MergeScanner) (b₀ : List ℕ) (m : MergeScanner) (b : List ℕ) (to done : ℕ) : Type 0 where
+pub record Writing (image : List ℕ) (m₀ : MergeScanner) (b₀ : List ℕ) (m : MergeScanner) (b : List ℕ) (done : ℕ) : Type 0 where
   pub size : length b ≡ length b₀
-  pub room : to ≤ length b₀
-  pub nine : to ≡ 9 * done
-  pub state : after (left_rows b₀ to) image m ≡ after (whole_rows b₀) image m₀
-  pub count : done + length (given (left_rows b₀ to) image m) ≡ length (given (whole_rows b₀) image m₀)
-  pub numbers : sets b to (rows_of (given (left_rows b₀ to) image m)) ≡ rowed_in m₀ image b₀
+  pub state : after (whole_rows b₀ - done) image m ≡ after (whole_rows b₀) image m₀
+  pub count : done + length (given (whole_rows b₀ - done) image m) ≡ length (given (whole_rows b₀) image m₀)
+  pub numbers : sets b (9 * done) (rows_of (given (whole_rows b₀ - done) image m)) ≡ rowed_in m₀ image b₀
 
-pub writing_starts : (image : List ℕ) (m : MergeScanner) (b : List ℕ) → Writing image m b m b 0 0
+pub writing_starts : (image : List ℕ) (m : MergeScanner) (b : List ℕ) → Writing image m b m b 0
 unfolding rowed_in
 writing_starts image m b =
-    let z : left_rows b 0 ≡ whole_rows b = omega arith in
-    record { size = refl; room = omega arith; nine = omega arith; state = rw z; count = rw z (omega arith); numbers = rw z }
+    let z : whole_rows b - 0 ≡ whole_rows b = omega arith in
+    record { size = refl; state = rw z; count = rw z (omega arith); numbers = rw z }
 
-module _ (image : List ℕ) (m₀ : MergeScanner) (b₀ : List ℕ) (m : MergeScanner) (b : List ℕ) (to done : ℕ) (w : Writing image m₀ b₀ m b to done) where
+module _ (image : List ℕ) (m₀ : MergeScanner) (b₀ : List ℕ) (m : MergeScanner) (b : List ℕ) (done : ℕ) (w : Writing image m₀ b₀ m b done) where
   -- no row is left
-  pub full_state : length b - to < 9 → m ≡ after (whole_rows b₀) image m₀
-  unfolding after
-  full_state h = let z : left_rows b₀ to ≡ 0 = omega (arith, w.size) in rw z at w.state
-
-  pub full_count : length b - to < 9 → done ≡ length (given (whole_rows b₀) image m₀)
-  unfolding given
-  full_count h = let z : left_rows b₀ to ≡ 0 = omega (arith, w.size) in let q = rw z at w.count in omega arith
-
-  pub full_numbers : length b - to < 9 → b ≡ rowed_in m₀ image b₀
-  unfolding given rows_of
-  full_numbers h = let z : left_rows b₀ to ≡ 0 = omega (arith, w.size) in rw z at w.numbers
+  pub wrote-all : whole_rows b₀ ≤ done → Wrote image m₀ b₀ m b done
+  unfolding after given rows_of
+  wrote-all h =
+      let z : whole_rows b₀ - done ≡ 0 = omega arith in
+      let q = rw z at w.count in
+      record { state = rw z at w.state; count = omega arith; numbers = rw z at w.numbers }
 
   -- no entry comes
-  module _ (a : MergeAnswer) (e : next_of m image ≡ record { state = m; answer = a }) (nay : (x : MergeEntry) → a ≡ answer.Entry x → ⊥) where
-    pub over-state : m ≡ after (whole_rows b₀) image m₀
-    over-state = sym (after_same image m a e nay (left_rows b₀ to)) ∙ w.state
-
-    pub over-count : done ≡ length (given (whole_rows b₀) image m₀)
-    over-count = let q = rw (given-none image m a e nay (left_rows b₀ to)) at w.count in omega arith
-
-    pub over-numbers : b ≡ rowed_in m₀ image b₀
-    unfolding rows_of
-    over-numbers = rw (given-none image m a e nay (left_rows b₀ to)) at w.numbers
+  pub wrote-some : Stays image m → Wrote image m₀ b₀ m b done
+  unfolding rows_of
+  wrote-some s =
+      let g = given-none image m s (whole_rows b₀ - done) in
+      let q = rw g at w.count in
+      record { state = sym (after_same image m s (whole_rows b₀ - done)) ∙ w.state; count = omega arith; numbers = rw g at w.numbers }
 
   -- one row more
-  module _ (h : 9 ≤ length b - to) (s : MergeScanner) (x : MergeEntry) (e : next_of m image ≡ record { state = s; answer = answer.Entry x }) (b' : List ℕ) (q : b' ≡ sets b to (row_of x)) where
-    one_less : left_rows b₀ to ≡ suc (left_rows b₀ (to + 9))
-    one_less = let z = w.size in let r = w.room in omega arith
+  module _ (h : done < whole_rows b₀) (s : MergeScanner) (x : MergeEntry) (e : next_of m image ≡ record { state = s; answer = Ok (Some x) }) (b' : List ℕ) (q : b' ≡ sets b (9 * done) (row_of x)) where
+    one_less : whole_rows b₀ - done ≡ suc (whole_rows b₀ - (done + 1))
+    one_less = omega arith
 
-    rest : given (left_rows b₀ to) image m ≡ x ∷ given (left_rows b₀ (to + 9)) image s
-    rest = ap (λ (k : ℕ). given k image m) one_less ∙ given-more image m s x e (left_rows b₀ (to + 9))
+    rest : given (whole_rows b₀ - done) image m ≡ x ∷ given (whole_rows b₀ - (done + 1)) image s
+    rest = ap (λ (k : ℕ). given k image m) one_less ∙ given-more image m s x e (whole_rows b₀ - (done + 1))
 
-    rows_more : rows_of (given (left_rows b₀ to) image m) ≡ row_of x ++ rows_of (given (left_rows b₀ (to + 9)) image s)
+    rows_more : rows_of (given (whole_rows b₀ - done) image m) ≡ row_of x ++ rows_of (given (whole_rows b₀ - (done + 1)) image s)
     unfolding rows_of
     rows_more = ap rows_of rest
 
-    count-more : suc (done + length (given (left_rows b₀ (to + 9)) image s)) ≡ length (given (whole_rows b₀) image m₀)
-    count-more =
-        let c : length (given (left_rows b₀ to) image m) ≡ suc (length (given (left_rows b₀ (to + 9)) image s)) = ap length rest in
-        let d = w.count in
-        omega arith
-
-    pub writing_on : Writing image m₀ b₀ s b' (to + 9) (done + 1)
+    pub writing_on : Writing image m₀ b₀ s b' (done + 1)
     writing_on =
-        let z = w.size in
-        let n = w.nine in
-        let c = count-more in
+        let c : length (given (whole_rows b₀ - done) image m) ≡ suc (length (given (whole_rows b₀ - (done + 1)) image s)) = ap length rest in
+        let d = w.count in
+        let nine : 9 * (done + 1) ≡ 9 * done + 9 = omega arith in
         record {
-          size = rw q (length-sets b to (row_of x)) ∙ z;
-          room = omega arith;
-          nine = omega arith;
-          state = sym (after_more image m s x e (left_rows b₀ (to + 9))) ∙ ap (λ (k : ℕ). after k image m) (sym one_less) ∙ w.state;
+          size = rw q (length-sets b (9 * done) (row_of x)) ∙ w.size;
+          state = sym (after_more image m s x e (whole_rows b₀ - (done + 1))) ∙ ap (λ (k : ℕ). after k image m) (sym one_less) ∙ w.state;
           count = omega arith;
-          numbers = ap (λ (l : List ℕ). sets l (to + 9) (rows_of (given (left_rows b₀ (to + 9)) image s))) q
-              ∙ sets-append (row_of x) (rows_of (given (left_rows b₀ (to + 9)) image s)) b to
-              ∙ ap (sets b to) (sym rows_more) ∙ w.numbers;
+          numbers = ap (λ (to : ℕ). sets b' to (rows_of (given (whole_rows b₀ - (done + 1)) image s))) nine
+              ∙ ap (λ (l : List ℕ). sets l (9 * done + 9) (rows_of (given (whole_rows b₀ - (done + 1)) image s))) q
+              ∙ sets-append (row_of x) (rows_of (given (whole_rows b₀ - (done + 1)) image s)) b (9 * done)
+              ∙ ap (sets b (9 * done)) (sym rows_more) ∙ w.numbers;
         }
 
 -- the whole pass
@@ -157,19 +145,33 @@ module _ (image : List ℕ) (m : MergeScanner) (b : List ℕ) where
   whole_row true h = let l : 9 ≤ length b = leb-true _ _ h in let g : 0 < whole_rows b = omega arith in sym (lt-ltb _ _ g)
   whole_row false h = let l : length b < 9 = leb-false _ _ h in let g : whole_rows b ≤ 0 = omega arith in sym (le-ltb _ _ g)
 
-  pub rowed : (a : MergeAnswer) → (next_of m image).answer ≡ a → (s : MergeScanner) → s ≡ after (whole_rows b) image m → (n : ℕ) → n ≡ length (given (whole_rows b) image m)
-      → (t : RowsAnswer) → t ≡ rows_said a (leb 9 (length b)) n → record { state = s; answer = t } ≡ rowed_of m image b
-  unfolding rowed_of
-  rowed a e s f n g t h = rw (f, h, g, whole_row _ refl, e)
+  said-front : table_ok (length image) m ≡ true → (f : Foremost) → f ≡ front_of image m → (fits : Bool) (n : ℕ) → rows_said f fits n ≡ rows_said (next_of m image).answer fits n
+  unfolding rows_said
+  said-front t (Ok (Some x)) f fits n = rw (next_takes m image t x (sym f))
+  said-front t (Ok None) f fits n = rw (next_ends m image t (sym f))
+  said-front t (Err w) f fits n = rw (next_refused m image t w (sym f))
 
-  pub rowed_bad : table_ok (length image) m ≡ false → (rowed_of m image b ≡ record { state = m; answer = rows.Refused rows-refusal.BadPart }) × (rowed_in m image b ≡ b)
+  module _ (i : List ℕ) (m' : MergeScanner) (same-image : i ≡ image) (same-state : m' ≡ m) (s : MergeScanner) (b' : List ℕ) (n : ℕ) (wrote : Wrote i m' b s b' n) where
+    w : Wrote image m b s b' n
+    w = subst (λ (k : MergeScanner). Wrote image k b s b' n) same-state (subst (λ (k : List ℕ). Wrote k m' b s b' n) same-image wrote)
+
+    pub rowed : table_ok (length image) m ≡ true → (f : Foremost) → f ≡ front_of i m' → (a : RowsAnswer) → a ≡ rows_said f (leb 9 (length b)) n → record { state = s; answer = a } ≡ rowed_of m image b
+    unfolding rowed_of
+    rowed t f e a q =
+        let g = subst (λ (k : MergeScanner). f ≡ front_of image k) same-state (subst (λ (k : List ℕ). f ≡ front_of k m') same-image e) in
+        rw (w.state, q, said-front t f g (leb 9 (length b)) n, w.count, whole_row _ refl)
+
+    pub numbered : b' ≡ rowed_in m image b
+    numbered = w.numbers
+
+  pub rowed_bad : table_ok (length image) m ≡ false → (record { state = m; answer = Err (refusal.Merge merge.BadPart) } ≡ rowed_of m image b) × (b ≡ rowed_in m image b)
   unfolding rowed_of rowed_in rows_said rows_of
   rowed_bad t =
+      let s = bad_stays image m t in
+      let g = given-none image m s (whole_rows b) in
+      let c = after_same image m s (whole_rows b) in
       let e = next_bad m image t in
-      let nay : (x : MergeEntry) → answer.Refused refusal.BadPart ≡ answer.Entry x → ⊥ = λ x h. let o : ◌≡◌ {A = ℕ} 0 1 = cc in omega arith in
-      let g = given-none image m (answer.Refused refusal.BadPart) e nay (whole_rows b) in
-      let s = after_same image m (answer.Refused refusal.BadPart) e nay (whole_rows b) in
-      (rw (s, e), rw g)
+      (rw (c, e), rw g)
 
 -- nine stores in a row are a run of stores
 pub nine_stores : (l : List ℕ) (at v₀ v₁ v₂ v₃ v₄ v₅ v₆ v₇ v₈ : ℕ)

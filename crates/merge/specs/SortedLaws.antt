@@ -8,8 +8,8 @@ use borrow.Author.Tests.{ltb-true, ltb-false, eqb-true, eqb-false, le-ltb}
 use Rattle.numbers.specs.Pick.{pick}
 use Rattle.frames.specs.Scan.{part_at}
 use Rattle.merge.specs.declared.heads.MergeEntry.{MergeEntry}
-use Rattle.merge.specs.declared.order.Order.{Order}
-use Rattle.merge.specs.declared.order.Order.TheVariants.{Less, Equal, Greater}
+use Rattle.std.specs.declared.cmp.Ordering.{Ordering}
+use Rattle.std.specs.declared.cmp.Ordering.TheVariants.{Less, Equal, Greater}
 use Rattle.merge.specs.Order.{order_of}
 use Rattle.merge.specs.Merge.{ranked, ahead}
 use Rattle.merge.specs.Sorted.{Below, short, here, later, Leq, by_key, by-seqno, by_part}
@@ -23,20 +23,20 @@ below_trans (later r) (here g) = here g
 below_trans (later r) (later s) = later (below_trans r s)
 
 -- what the comparison says is so
-pub data Compared (a b : List ℕ) : Order → Type 0 where
+pub data Compared (a b : List ℕ) : Ordering → Type 0 where
   less : Below a b → Compared a b Less
   same : a ≡ b → Compared a b Equal
   more : Below b a → Compared a b Greater
 
-tails : (x y : ℕ) (a b : List ℕ) (o : Order) → x ≡ y → Compared a b o → Compared (x ∷ a) (y ∷ b) o
+tails : (x y : ℕ) (a b : List ℕ) (o : Ordering) → x ≡ y → Compared a b o → Compared (x ∷ a) (y ∷ b) o
 tails x y a b o e c = subst (λ (z : ℕ). Compared (x ∷ a) (z ∷ b) o) e (go c)
   where
-    go : {w : Order} → Compared a b w → Compared (x ∷ a) (x ∷ b) w
+    go : {w : Ordering} → Compared a b w → Compared (x ∷ a) (x ∷ b) w
     go (less r) = less (later r)
     go (same q) = same (ap (λ (l : List ℕ). x ∷ l) q)
     go (more r) = more (later r)
 
-step-view : (x y : ℕ) (a b : List ℕ) (o : Order) → Compared a b o → (s t : Bool) → ltb x y ≡ s → ltb y x ≡ t → Compared (x ∷ a) (y ∷ b) (pick s Less (pick t Greater o))
+step-view : (x y : ℕ) (a b : List ℕ) (o : Ordering) → Compared a b o → (s t : Bool) → ltb x y ≡ s → ltb y x ≡ t → Compared (x ∷ a) (y ∷ b) (pick s Less (pick t Greater o))
 unfolding pick
 step-view x y a b o c true t p q = less (here (ltb-true _ _ p))
 step-view x y a b o c false true p q = more (here (ltb-true _ _ q))
@@ -70,7 +70,7 @@ module _ (image : List ℕ) (x y : MergeEntry) where
   ahead-pick e true q h = let l : x.part < y.part = ltb-true _ _ h in by_part e (eqb-true _ _ q) (omega arith)
   ahead-pick e false q h = by-seqno e (ltb-true _ _ h)
 
-  ahead-by : (o : Order) → Compared (part_at image x.key) (part_at image y.key) o → ranked o x.seqno x.part y.seqno y.part ≡ true → Leq image x y
+  ahead-by : (o : Ordering) → Compared (part_at image x.key) (part_at image y.key) o → ranked o x.seqno x.part y.seqno y.part ≡ true → Leq image x y
   unfolding ranked
   ahead-by o (less r) h = by_key r
   ahead-by o (same e) h = ahead-pick e _ refl h
@@ -90,7 +90,7 @@ module _ (image : List ℕ) (x y : MergeEntry) where
       let l : y.seqno ≤ x.seqno = ltb-false _ _ h in
       by-seqno e (omega (arith, n))
 
-  behind-by : (o : Order) → Compared (part_at image y.key) (part_at image x.key) o → ranked o y.seqno y.part x.seqno x.part ≡ false → Leq image x y
+  behind-by : (o : Ordering) → Compared (part_at image y.key) (part_at image x.key) o → ranked o y.seqno y.part x.seqno x.part ≡ false → Leq image x y
   unfolding ranked
   behind-by o (less r) h = let z : ◌≡◌ {A = ℕ} 0 1 = cc in absurd (omega arith)
   behind-by o (same e) h = behind-pick (sym e) _ refl h
@@ -142,7 +142,7 @@ module _ (image : List ℕ) (x y : MergeEntry) where
   seqno-pick true q l = let e : y.seqno ≡ x.seqno = eqb-true _ _ q in absurd (omega arith)
   seqno-pick false q l = let g : y.seqno ≤ x.seqno = omega arith in le-ltb _ _ g
 
-  leq_by : (o : Order) → Compared (part_at image y.key) (part_at image x.key) o → Leq image x y → ranked o y.seqno y.part x.seqno x.part ≡ false
+  leq_by : (o : Ordering) → Compared (part_at image y.key) (part_at image x.key) o → Leq image x y → ranked o y.seqno y.part x.seqno x.part ≡ false
   unfolding ranked
   leq_by o (more r) h = refl
   leq_by o (less r) (by_key s) = absurd (below_irreflexive r s)

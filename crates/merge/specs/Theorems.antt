@@ -1,16 +1,15 @@
 -- The merge's theorems, stated of the definitions that the contracts cite. All are proved: proofs/Theorems.antt has the record at the end.
-use Rattle.std.specs.Prelude.{ℕ, suc, ◌*◌, ◌<◌, ◌≤◌, ◌≡◌, List, [], ◌∷◌, true, false, eqb, length, take, get_or}
+use Rattle.std.specs.Prelude.{ℕ, suc, ◌*◌, ◌<◌, ◌≤◌, ◌≡◌, List, [], ◌∷◌, true, false, eqb, length, take, get_or, Some, None, Ok, Err}
 use Rattle.numbers.specs.Pick.{pick}
 use Rattle.numbers.specs.declared.handle.ValueHandle.{ValueHandle}
 use Rattle.frames.specs.declared.scanner.Scanner.{Scanner}
 use Rattle.frames.specs.declared.scanner.ScanEntry.{ScanEntry}
-use Rattle.frames.specs.declared.scanner.Scanned.TheVariants as scanned
+use Rattle.frames.specs.declared.scanner.Step.TheVariants as scanned
 use Rattle.merge.specs.declared.parts.Part.{Part}
 use Rattle.merge.specs.declared.parts.MergeScanner.{MergeScanner}
 use Rattle.merge.specs.declared.heads.MergeEntry.{MergeEntry}
-use Rattle.merge.specs.declared.next.MergeAnswer.TheVariants as answer
-use Rattle.merge.specs.declared.drain.DrainOutcome.TheVariants as outcome
-use Rattle.merge.specs.declared.drain.DrainRefusal.TheVariants as refusal
+use Rattle.merge.specs.declared.refusals.MergeRefusal.TheVariants as merge
+use Rattle.merge.specs.declared.refusals.DrainRefusal.TheVariants as refusal
 use Rattle.merge.specs.Parts.{table_ok, moved, start_of}
 use Rattle.merge.specs.Merge.{scan_at, entry_of, next_of}
 use Rattle.merge.specs.Rows.{given}
@@ -29,8 +28,8 @@ pub data ReadsAll (image : List ℕ) : ℕ → List Part → List (List MergeEnt
 
 -- calls of `next` give these entries, and then the end
 pub data Gives (image : List ℕ) : MergeScanner → List MergeEntry → Type 0 where
-  over : {m : MergeScanner} → (next_of m image).answer ≡ answer.End → Gives image m []
-  one : {m : MergeScanner} {x : MergeEntry} {out : List MergeEntry} → (next_of m image).answer ≡ answer.Entry x → Gives image (next_of m image).state out → Gives image m (x ∷ out)
+  over : {m : MergeScanner} → (next_of m image).answer ≡ Ok None → Gives image m []
+  one : {m : MergeScanner} {x : MergeEntry} {out : List MergeEntry} → (next_of m image).answer ≡ Ok (Some x) → Gives image (next_of m image).state out → Gives image m (x ∷ out)
 
 -- the entries of part j among others, in their order
 unfoldable pub from_part : ℕ → List MergeEntry → List MergeEntry
@@ -62,7 +61,7 @@ MergeBounded = (image : List ℕ) (m : MergeScanner) (k : ℕ) → (4 * length (
 
 -- "only 13 hands back the state as it came in": it is given of a malformed table alone, before any entry was skipped
 abbrev pub DrainSame : Type 0
-DrainSame = (image key : List ℕ) (handle : ValueHandle) (m : MergeScanner) → (drain_of m image key handle).outcome ≡ outcome.Refused refusal.BadPart
+DrainSame = (image key : List ℕ) (handle : ValueHandle) (m : MergeScanner) → (drain_of m image key handle).outcome ≡ Err (refusal.Merge merge.BadPart)
     → (table_ok (length image) m ≡ false) × ((drain_of m image key handle).state ≡ m)
 
 -- the calls that a drain makes are enough: it ends of itself, and any more calls give the same

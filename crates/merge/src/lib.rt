@@ -3,10 +3,11 @@
 
 pub mod drain;
 pub mod heads;
-mod kept;
 pub mod next;
 pub mod order;
 pub mod parts;
+mod pass;
+pub mod refusals;
 pub mod rows;
 mod table;
 mod tournament;

@@ -3,7 +3,7 @@ ghost use Rattle.std.specs.Prelude.{◌≡◌};
 ghost use Rattle.merge.specs.Parts.{start_of};
 
 // A part of the image: where it starts, its length, the id of the file that it is, and the position in it.
-#[derive(Clone, Copy)]
+#[derive(Clone, Copy, PartialEq, Eq)]
 pub struct Part {
     pub start: usize,
     pub length: usize,
@@ -12,7 +12,7 @@ pub struct Part {
 }
 
 // The parts from 0 up to `count`; those beyond are not looked at.
-#[derive(Clone, Copy)]
+#[derive(Clone, Copy, PartialEq, Eq)]
 pub struct MergeScanner {
     pub count: usize,
     pub parts: [Part; 16],
@@ -23,14 +23,9 @@ impl MergeScanner {
     pub fn start(parts: [Part; 16], count: usize) -> MergeScanner
         ensures { result ≡ start_of count parts }
     {
-        let mut ps = parts;
-        let mut i = 0;
-        while i < 16 {
-            let mut p = ps[i];
-            p.at = 0;
-            ps[i] = p;
-            i += 1;
+        MergeScanner {
+            count,
+            parts: parts.map(|p| Part { at: 0, ..p }),
         }
-        MergeScanner { count, parts: ps }
     }
 }

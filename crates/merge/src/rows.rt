@@ -1,60 +1,21 @@
 // The merge in one pass: entries as rows of nine numbers.
-ghost use Rattle.std.specs.Prelude.{true, ◌≡◌, ◌+◌, ◌≤◌, length};
+ghost use Rattle.std.specs.Prelude.{◌≡◌, ◌+◌, ◌≤◌, length};
 ghost use Rattle.std.proofs.lemmas.List.Edits.{sets};
-ghost use Rattle.merge.specs.Parts.{table_ok};
-ghost use Rattle.merge.specs.Pass.{Pass};
-ghost use Rattle.merge.specs.Rows.{row_of, rows_of, given, after, whole_rows, rowed_of, rowed_in};
-ghost use Rattle.merge.specs.Refusals.{rows_number};
+ghost use Rattle.merge.specs.Rows.{row_of, rows_said, Wrote, rowed_of, rowed_in};
 
-use super::heads::MergeEntry;
-use super::kept::{Fault, Kept, head};
-use super::next::{MergeAnswer, MergeRefusal};
+use super::heads::{Head, MergeEntry};
 use super::parts::MergeScanner;
-use super::table::fits;
-use super::tournament::{answer, begin, win};
-use frames::scanner::ScanRefusal;
+use super::pass::Pass;
+use super::refusals::{MergeRefusal, RowsRefusal};
 
-#[derive(Clone, Copy)]
-pub enum RowsRefusal {
-    BadPart,
-    NoRoom,
-    Scan { part: usize, why: ScanRefusal },
-}
-
-impl RowsRefusal {
-    // Document 01's number.
-    pub fn number(self) -> u64
-        ensures { result ≡ rows_number self }
-    {
-        match self {
-            RowsRefusal::BadPart => 13,
-            RowsRefusal::NoRoom => 3,
-            RowsRefusal::Scan { part: _, why } => why.number(),
-        }
-    }
-}
-
-// How many rows were written; or the end or the refusal that stands before the first.
-#[derive(Clone, Copy)]
-pub enum RowsAnswer {
-    Rows(usize),
-    End,
-    Refused(RowsRefusal),
-}
-
+// How many rows were written, or none at the end; or the refusal that stands before the first.
 #[derive(Clone, Copy)]
 pub struct Rowed {
     pub state: MergeScanner,
-    pub answer: RowsAnswer,
+    pub answer: Result<Option<usize>, RowsRefusal>,
 }
 
-// A pass that wrote so many rows.
-#[derive(Clone, Copy)]
-struct Written {
-    state: MergeScanner,
-    rows: usize,
-}
-
+// Nine stores: an array copied over takes 30 instructions more an entry (977 against 947).
 fn put_row(rows: &mut [u64], at: usize, x: MergeEntry)
     requires { at + 9 ≤ length rows.old }
     ensures { rows.new ≡ sets rows.old at (row_of x) }
@@ -70,111 +31,56 @@ fn put_row(rows: &mut [u64], at: usize, x: MergeEntry)
     rows[at + 8] = x.value.len as u64;
 }
 
-// What is told before the first row is written.
-fn told(a: MergeAnswer, fits: bool, n: usize) -> RowsAnswer
-    ensures { result ≡ Rattle.merge.specs.Rows.rows_said a fits n }
+// What is told of n rows where that goes first before them.
+fn told(
+    first: Result<Option<Head>, MergeRefusal>,
+    fits: bool,
+    n: usize,
+) -> Result<Option<usize>, RowsRefusal>
+    ensures { result ≡ rows_said first fits n }
 {
-    match a {
-        MergeAnswer::Entry(_) => {
-            if fits {
-                return RowsAnswer::Rows(n);
-            }
-            RowsAnswer::Refused(RowsRefusal::NoRoom)
-        }
-        MergeAnswer::End => RowsAnswer::End,
-        MergeAnswer::Refused(w) => match w {
-            MergeRefusal::BadPart => RowsAnswer::Refused(RowsRefusal::BadPart),
-            MergeRefusal::Scan { part, why } => {
-                RowsAnswer::Refused(RowsRefusal::Scan { part, why })
-            }
-        },
+    match first? {
+        Some(_) if fits => Ok(Some(n)),
+        Some(_) => Err(RowsRefusal::NoRoom),
+        None => Ok(None),
     }
 }
 
+// Rows until no whole row is left, or the end or a refusal is next: how many.
+fn write(pass: &mut Pass, rows: &mut [u64]) -> usize
+    ensures image { pass.new.image ≡ pass.old.image }
+    ensures wrote { Wrote pass.old.image.now pass.old.state rows.old pass.new.state rows.new result }
+{
+    let whole = rows.len() / 9;
+    for done in 0..whole {
+        let Ok(Some(first)) = pass.front() else {
+            return done;
+        };
+        put_row(rows, 9 * done, first.entry);
+        pass.take(first);
+    }
+    whole
+}
+
 impl MergeScanner {
-    // Rows until no whole row is left, or the end or a refusal is next.
-    fn write(self, image: &[u8], tree: [Kept; 32], fault: Fault, rows: &mut [u64]) -> Written
-        requires { (table_ok (length image.now) self ≡ true) × Pass image.now self.count self.parts tree fault }
-        ensures { (result.state ≡ after (whole_rows rows.old) image.now self) × (result.rows ≡ length (given (whole_rows rows.old) image.now self)) × (rows.new ≡ rowed_in self image.now rows.old) }
-    {
-        let n = self.count;
-        let mut ps = self.parts;
-        let mut t = tree;
-        let mut f = fault;
-        let mut to = 0;
-        let mut done = 0;
-        while 9 <= rows.len() - to {
-            let b = t[1];
-            let a = answer(f, b);
-            let MergeAnswer::Entry(x) = a else {
-                return Written {
-                    state: MergeScanner {
-                        count: n,
-                        parts: ps,
-                    },
-                    rows: done,
-                };
-            };
-            put_row(rows, to, x);
-            to += 9;
-            done += 1;
-            let k = x.part;
-            let mut p = ps[k];
-            p.at = b.next;
-            ps[k] = p;
-            let h = head(image, k, p);
-            let kept = h.kept;
-            t[16 + k] = kept;
-            f = h.fault;
-            let mut j = (16 + k) / 2;
-            while 0 < j {
-                let y = t[2 * j];
-                let z = t[2 * j + 1];
-                t[j] = win(image, y, z);
-                j = j / 2;
-            }
-        }
-        Written {
-            state: MergeScanner {
-                count: n,
-                parts: ps,
-            },
-            rows: done,
-        }
-    }
-
-    // One pass over a table that is one.
-    fn pass(self, image: &[u8], rows: &mut [u64]) -> Rowed
-        requires { table_ok (length image.now) self ≡ true }
-        ensures { (result ≡ rowed_of self image.now rows.old) × (rows.new ≡ rowed_in self image.now rows.old) }
-    {
-        let n = self.count;
-        let ps = self.parts;
-        let h = begin(image, ps, n);
-        let t = h.tree;
-        let b = t[1];
-        let f = h.fault;
-        let a = answer(f, b);
-        let fits = 9 <= rows.len();
-        let w = self.write(image, t, f, rows);
-        let s = w.state;
-        let told = told(a, fits, w.rows);
-        Rowed {
-            state: s,
-            answer: told,
-        }
-    }
-
     // A row is nine numbers: part, file id, offset, the key's place and length, seqno, stated length, the value's place and length.
     pub fn next_rows(self, image: &[u8], rows: &mut [u64]) -> Rowed
-        ensures { (result ≡ rowed_of self image.now rows.old) × (rows.new ≡ rowed_in self image.now rows.old) }
+        ensures answer { result ≡ rowed_of self image.now rows.old }
+        ensures numbers { rows.new ≡ rowed_in self image.now rows.old }
     {
-        if fits(self, image.len()) {
-            return self.pass(image, rows);
+        if !self.fits(image.len()) {
+            return Rowed {
+                state: self,
+                answer: Err(RowsRefusal::Merge(MergeRefusal::BadPart)),
+            };
         }
+        let mut pass = Pass::begin(image, self);
+        let first = pass.front();
+        let fits = 9 <= rows.len();
+        let n = write(&mut pass, rows);
         Rowed {
-            state: self,
-            answer: RowsAnswer::Refused(RowsRefusal::BadPart),
+            state: pass.state,
+            answer: told(first, fits, n),
         }
     }
 }

@@ -1,9 +1,9 @@
 -- The turns of the loop that reads a number, from what it has read so far.
-use Rattle.std.proofs.Common.{◌≡◌, ℕ, zero, suc, ◌+◌, ◌-◌, ◌*◌, ◌%◌, ◌^◌, ◌<◌, ◌≤◌, Bool, true, false, ltb, List, [], ◌∷◌, length, get_or, take, drop, sym, refl, ap, ◌∙◌, mul-le-mul_right, mul-le-mul_left, pow-suc, add-one, arith, lit<, drop_of_length-le, drop-cons, ltb-false, ltb-true, le-ltb, lt-ltb}
-use native.Mathlib.Nat.{pow-le-pow_right}
+use Rattle.std.proofs.Common.{◌≡◌, ℕ, zero, suc, ◌+◌, ◌-◌, ◌*◌, ◌/◌, ◌%◌, ◌^◌, ◌<◌, ◌≤◌, Bool, true, false, List, [], ◌∷◌, length, get_or, take, drop, sym, refl, ap, ◌∙◌, mul-suc, mul-le-mul_left, pow-suc, pow-add, pow_mono, add-one, arith, drop_of_length-le, drop-cons, nat_le, nat_lt, leb-false, leb-true, ltb-false, ltb-true, le-ltb, lt-ltb}
+use Rattle.numbers.specs.GroupLaws.{sevens}
 use Rattle.numbers.specs.Pick.{pick}
 use Rattle.numbers.specs.Leb128Laws.{carried-end, carried_stop, carried_on, read_at}
-use Rattle.numbers.specs.Leb128.{value_of, carried, number, refused, read_in}
+use Rattle.numbers.specs.Leb128.{value_of, carried, got, refused, read_in, groups}
 use Rattle.numbers.specs.declared.leb128.NumberRefusal.TheVariants.{CutShort, TooLong}
 
 -- ---- one group more
@@ -53,9 +53,9 @@ module _ (limit at most i value weight : ℕ) (t : List ℕ) (p : Passed most i 
         let m : b % 128 ≡ b = omega arith in
         ap (λ (x : ℕ). value + weight * x) (sym m) ∙ reached
 
-    pub turn-number : b < 128 → value + weight * b < limit → read_in most limit at t ≡ number (value + weight * b) (i + 1)
+    pub turn-got : b < 128 → value + weight * b < limit → read_in most limit at t ≡ got (value + weight * b) (i + 1)
     unfolding pick
-    turn-number g l =
+    turn-got g l =
         read_at most limit at i t (stops g) (omega arith)
         ∙ rw (← here g, lt-ltb i (length t) h, lt-ltb (value + weight * b) limit l)
 
@@ -91,37 +91,62 @@ module _ (limit at most i value weight : ℕ) (t : List ℕ) (p : Passed most i 
             below = omega (arith, p.below, mul-le-mul_left weight k);
           }
 
--- ---- nothing passes 64 bits, and nothing but the last allowed byte passes the limit
-module _ (most last i value weight b : ℕ) (t : List ℕ) (p : Passed most i value weight t) where
-  pub weight_fits : i + 1 < most → most ≤ 10 → weight * 128 ≤ 2 ^ 63
-  weight_fits h m = rw (p.weighs, ← pow-suc 128 i) (pow-le-pow_right {n = 128} (lit< tt) {i = suc i} {j = 9} (omega arith))
+-- ---- what is left of the width
+-- the groups from the i-th on may hold `left`, and there is one at least
+pub record Left (w i left : ℕ) : Type 0 where
+  pub more : 7 * i < w
+  pub is : left + 1 ≡ 2 ^ (w - 7 * i)
 
-  pub group_fits : b < 128 → value + weight * b < weight * 128
-  group_fits g =
-      let k : b ≤ 127 = omega arith in
-      omega (arith, p.below, mul-le-mul_left weight k)
+pub all_left : (w max : ℕ) → 0 < w → max + 1 ≡ 2 ^ w → Left w 0 max
+all_left w max p e = record { more = omega arith; is = let f : w - 7 * 0 ≡ w = omega arith in rw f e }
 
-  pub under : i + 1 < most → b < 128 → value + weight * b < (last + 1) * 128 ^ (most - 1)
-  under h g =
-      let w : weight * 128 ≤ 128 ^ (most - 1) = rw (p.weighs, ← pow-suc 128 i) (pow-le-pow_right {n = 128} (lit< tt) {i = suc i} {j = most - 1} (omega arith)) in
-      let x : 1 * 128 ^ (most - 1) ≤ (last + 1) * 128 ^ (most - 1) = mul-le-mul_right (128 ^ (most - 1)) (omega arith) in
-      omega (arith, group_fits g)
+module _ (w i left : ℕ) (q : Left w i left) where
+  pub last_left : left < 128 → i + 1 ≡ groups w
+  last_left h = go (nat_le 8 (w - 7 * i)) refl
+    where
+      go : (b : Bool) → nat_le 8 (w - 7 * i) ≡ b → i + 1 ≡ groups w
+      go true e =
+          let m : 2 ^ 8 ≤ 2 ^ (w - 7 * i) = pow_mono {i = 8} {j = w - 7 * i} (leb-true 8 (w - 7 * i) e) in
+          absurd (omega (arith, q.is, m))
+      go false e = omega (arith, q.more, leb-false 8 (w - 7 * i) e)
 
-  module _ (h : i + 1 ≡ most) where
-    top : 128 ^ (most - 1) ≡ weight
-    top = let e : most - 1 ≡ i = omega arith in rw e (sym p.weighs)
+  pub more_left : 128 ≤ left → 7 * (i + 1) < w
+  more_left h = go (nat_le 8 (w - 7 * i)) refl
+    where
+      go : (b : Bool) → nat_le 8 (w - 7 * i) ≡ b → 7 * (i + 1) < w
+      go true e = omega (arith, leb-true 8 (w - 7 * i) e)
+      go false e =
+          let k : w - 7 * i ≤ 7 = omega (arith, leb-false 8 (w - 7 * i) e) in
+          let m : 2 ^ (w - 7 * i) ≤ 2 ^ 7 = pow_mono {i = w - 7 * i} {j = 7} k in
+          absurd (omega (arith, q.is, m))
 
-    pub last_under : b ≤ last → value + weight * b < (last + 1) * 128 ^ (most - 1)
-    last_under g = rw top (omega (arith, p.below, mul-le-mul_left weight g))
+  pub next_left : 128 ≤ left → Left w (i + 1) (left / 128)
+  next_left h =
+      let m = more_left h in
+      let e : w - 7 * i ≡ w - 7 * (i + 1) + 7 = omega arith in
+      let f : left + 1 ≡ 2 ^ (w - 7 * (i + 1)) * 2 ^ 7 = q.is ∙ ap (λ (n : ℕ). 2 ^ n) e ∙ pow-add 2 (w - 7 * (i + 1)) 7 in
+      record { more = m; is = omega (arith, f) }
 
-    pub last-over : last < b → (last + 1) * 128 ^ (most - 1) ≤ value + weight * b
-    last-over g = rw top (omega (arith, mul-le-mul_left weight g))
+  module _ (most value weight : ℕ) (t : List ℕ) (p : Passed most i value weight t) where
+    -- the groups passed and those that are left make the whole
+    whole : weight * left + weight ≡ 2 ^ w
+    whole =
+        let e : 7 * i + (w - 7 * i) ≡ w = omega (arith, q.more) in
+        let f : weight ≡ 2 ^ (7 * i) = p.weighs ∙ sevens i in
+        sym (mul-suc weight left) ∙ ap (λ (x : ℕ). weight * x) (sym (add-one left) ∙ q.is) ∙ ap (λ (x : ℕ). x * 2 ^ (w - 7 * i)) f
+        ∙ sym (pow-add 2 (7 * i) (w - 7 * i)) ∙ ap (λ (n : ℕ). 2 ^ n) e
 
--- the last allowed byte above what it may hold: it carries on, or the value passes the limit
-pub last-refused : (last at most i value weight : ℕ) (t : List ℕ) → Passed most i value weight t → (b : ℕ) → b ≡ get_or t i 0 → i < length t → i + 1 ≡ most → last < b
-    → read_in most ((last + 1) * 128 ^ (most - 1)) at t ≡ refused TooLong
-last-refused last at most i value weight t p b r h e g = go (ltb b 128) refl
+    pub group_under : (b : ℕ) → b ≤ left → value + weight * b < 2 ^ w
+    group_under b g = omega (arith, whole, p.below, mul-le-mul_left weight g)
+
+    pub group_over : (b : ℕ) → left < b → 2 ^ w ≤ value + weight * b
+    group_over b g = omega (arith, whole, mul-suc weight left, mul-le-mul_left weight g)
+
+-- the last allowed byte above what is left: it carries on, or the value passes the limit
+pub last-refused : (w at i value weight left : ℕ) (t : List ℕ) → Left w i left → Passed (groups w) i value weight t → (b : ℕ) → b ≡ get_or t i 0 → i < length t
+    → left < 128 → left < b → read_in (groups w) (2 ^ w) at t ≡ refused TooLong
+last-refused w at i value weight left t q p b r h l g = go (nat_lt b 128) refl
   where
-    go : (k : Bool) → ltb b 128 ≡ k → read_in most ((last + 1) * 128 ^ (most - 1)) at t ≡ refused TooLong
-    go true s = turn-over ((last + 1) * 128 ^ (most - 1)) at most i value weight t p b r h (ltb-true b 128 s) (last-over most last i value weight b t p e g)
-    go false s = turn_last ((last + 1) * 128 ^ (most - 1)) at most i value weight t p b r h (ltb-false b 128 s) e
+    go : (k : Bool) → nat_lt b 128 ≡ k → read_in (groups w) (2 ^ w) at t ≡ refused TooLong
+    go true s = turn-over (2 ^ w) at (groups w) i value weight t p b r h (ltb-true b 128 s) (group_over w i left q (groups w) value weight t p b g)
+    go false s = turn_last (2 ^ w) at (groups w) i value weight t p b r h (ltb-false b 128 s) (last_left w i left q l)

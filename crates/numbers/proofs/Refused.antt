@@ -2,7 +2,7 @@
 use Rattle.std.proofs.Common.{◌≡◌, ℕ, zero, suc, ◌+◌, ◌^◌, ◌<◌, ◌≤◌, Bool, true, false, ltb, leb, ◌⊎◌, List, [], ◌∷◌, ◌++◌, length, get_or, take, drop, sym, refl, ap, ◌∙◌, inl, inr, ⊎_elim, lt_of_lt_of_le, add-one, arith, lit<, take-append-drop, length-take-le, get_or-drop, ltb-false, ltb-true, le-ltb, leb-false, leb-true}
 use native.Mathlib.Nat.{pow-le-pow_right}
 use Rattle.numbers.specs.Pick.{pick}
-use Rattle.numbers.specs.Leb128.{shortest, in_groups, value_of, carried, Reading, number, refused, read_in, groups}
+use Rattle.numbers.specs.Leb128.{shortest, in_groups, value_of, carried, Reading, got, refused, read_in, groups}
 use Rattle.numbers.specs.Leb128Laws.{length_some, length_most, carried_stop, carried_on, read_at}
 use Rattle.numbers.specs.GroupLaws.{Again, again, shortest-holds, value-below, reads_over}
 use Rattle.numbers.specs.Theorems.{CarryOn, CutExactly, TooLongExactly}
@@ -49,7 +49,7 @@ carried_least (suc most) (suc k) (b ∷ bs) m c =
 abbrev told : (at n v : ℕ) → Bool → Bool → Bool → Reading
 told at n v a b c =
     pick a
-    (pick b (pick c (number v (n + 1)) (refused refusal.TooLong)) (refused (refusal.CutShort (record { at = at; needed = n + 1; present = n }))))
+    (pick b (pick c (got v (n + 1)) (refused refusal.TooLong)) (refused (refusal.CutShort (record { at = at; needed = n + 1; present = n }))))
     (refused refusal.TooLong)
 
 -- t begins with a spelling of a number at the limit or above

@@ -1,8 +1,8 @@
 -- Laws of spellings in so many groups: what is read is one, and each reads as its number.
-use Rattle.std.specs.Prelude.{◌≡◌, ℕ, zero, suc, ◌+◌, ◌-◌, ◌*◌, ◌/◌, ◌%◌, ◌^◌, ◌<◌, ◌≤◌, Bool, true, false, ◌⊎◌, List, [], ◌∷◌, ◌++◌, length, take, nat_le, nat_lt, slice_index, refl}
+use Rattle.std.specs.Prelude.{◌≡◌, ℕ, zero, suc, ◌+◌, ◌-◌, ◌*◌, ◌/◌, ◌%◌, ◌^◌, ◌<◌, ◌≤◌, max, Bool, true, false, ◌⊎◌, List, [], ◌∷◌, ◌++◌, length, take, nat_le, nat_lt, slice_index, refl}
 use Rattle.std.proofs.Common.{sym, ap, ◌∙◌, inl, inr, arith, pow-suc, lt_of_lt_of_le, div-lt_iff_lt-mul, add-one, lit<, length-append, length-take, pow-add, pow_mono, take_at, lt-ltb, le-ltb, ltb-true, ltb-false, leb-true, leb-false}
 use Rattle.numbers.specs.Pick.{pick}
-use Rattle.numbers.specs.Leb128.{shortest, in_groups, value_of, carried, number, refused, read_in, groups}
+use Rattle.numbers.specs.Leb128.{shortest, in_groups, value_of, carried, got, refused, read_in, groups}
 use Rattle.numbers.specs.Leb128Laws.{by-groups, shortest-one, shortest-more, length-one, length_more, length_some, length_most, carried_stop, carried_on, read_at, Found}
 use Rattle.numbers.specs.declared.leb128.NumberRefusal.TheVariants.{TooLong}
 
@@ -30,7 +30,7 @@ carried-groups (suc most) (suc n) x rest m h =
 
 -- it reads as its number, with what follows left, where that is below the limit
 pub reads_spelling : (most limit at n x : ℕ) (rest : List ℕ) → n < most → x < 128 ^ suc n
-    → read_in most limit at (in_groups (suc n) x ++ rest) ≡ pick (nat_lt x limit) (number x (suc n)) (refused TooLong)
+    → read_in most limit at (in_groups (suc n) x ++ rest) ≡ pick (nat_lt x limit) (got x (suc n)) (refused TooLong)
 unfolding pick
 reads_spelling most limit at n x rest m h =
     let e : value_of (take (n + 1) (in_groups (suc n) x ++ rest)) ≡ x = ap value_of (take_at (in_groups (suc n) x) rest (n + 1) (length-groups (suc n) x ∙ sym (add-one n))) ∙ value-groups n x h in
@@ -39,7 +39,7 @@ reads_spelling most limit at n x rest m h =
     ∙ rw (e, lt-ltb n (length (in_groups (suc n) x ++ rest)) k, add-one n)
 
 pub reads-groups : (most limit at n x : ℕ) (rest : List ℕ) → n < most → x < 128 ^ suc n → x < limit
-    → read_in most limit at (in_groups (suc n) x ++ rest) ≡ number x (suc n)
+    → read_in most limit at (in_groups (suc n) x ++ rest) ≡ got x (suc n)
 unfolding pick
 reads-groups most limit at n x rest m h l = reads_spelling most limit at n x rest m h ∙ rw (lt-ltb x limit l)
 
@@ -69,7 +69,7 @@ shortest-holds =
     (λ x h ih. rw (length_more x h, pow-suc) (omega arith))
 
 -- ---- widths
-sevens : (n : ℕ) → 128 ^ n ≡ 2 ^ (7 * n)
+pub sevens : (n : ℕ) → 128 ^ n ≡ 2 ^ (7 * n)
 sevens zero = refl
 sevens (suc n) =
     let e : 7 * n + 7 ≡ 7 * suc n = omega arith in
@@ -82,6 +82,29 @@ in_width w x p h =
     let m : 2 ^ w ≤ 2 ^ (7 * suc k) = pow_mono {i = w} {j = 7 * suc k} (omega arith) in
     let l : length (shortest x) ≤ suc k = length_most k x (rw sevens (lt_of_lt_of_le h m)) in
     omega arith
+
+-- one group for seven bits, up to the highest that is set
+pub groups_to-top : (x top : ℕ) → 2 ^ top ≤ max x 1 → max x 1 < 2 * 2 ^ top → top / 7 + 1 ≡ length (shortest x)
+groups_to-top x top a b = go (nat_le n (top / 7)) refl
+  where
+    n : ℕ
+    n = length (shortest x)
+
+    most : n ≤ suc (top / 7)
+    most =
+        let s : 2 * 2 ^ top ≡ 2 ^ suc top = omega (arith, pow-suc 2 top) in
+        let m : 2 ^ suc top ≤ 2 ^ (7 * suc (top / 7)) = pow_mono {i = suc top} {j = 7 * suc (top / 7)} (omega arith) in
+        length_most (top / 7) x (rw sevens (omega (arith, s, m)))
+
+    go : (c : Bool) → nat_le n (top / 7) ≡ c → top / 7 + 1 ≡ n
+    go false e = omega (arith, most, leb-false n (top / 7) e)
+    go true e =
+        let l = leb-true n (top / 7) e in
+        let i = length_some x in
+        let seven : 2 ^ 7 ≤ 2 ^ top = pow_mono {i = 7} {j = top} (omega arith) in
+        let fits : 2 ^ (7 * n) ≤ 2 ^ top = pow_mono {i = 7 * n} {j = top} (omega arith) in
+        let under : x < 2 ^ (7 * n) = rw sevens at (shortest-holds x) in
+        absurd (omega arith)
 
 -- ---- what is read is the spelling of its number in so many groups
 pub value-below : (t : List ℕ) → value_of t < 128 ^ length t

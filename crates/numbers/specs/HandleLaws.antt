@@ -1,14 +1,12 @@
 -- Laws of handles and indirections as bytes: what the round trips stand on.
-use Rattle.std.specs.Prelude.{◌≡◌, ℕ, ◌+◌, ◌≤◌, List, ◌++◌, length, refl}
-use Rattle.std.proofs.Common.{ap, ◌∙◌, arith, length-append}
+use Rattle.std.specs.Prelude.{◌≡◌, ℕ, ◌+◌, ◌≤◌, List, ◌++◌, length, Ok, Err, refl}
+use Rattle.std.proofs.Common.{sym, ap, ◌∙◌, arith, length-append}
 use Rattle.std.proofs.lemmas.List.Edits.{sets}
 use Rattle.numbers.specs.LeLaws.{sets-append}
-use Rattle.numbers.specs.Leb128.{shortest, Reading, number, refused, read_of}
+use Rattle.numbers.specs.Leb128.{shortest, ReadOf, got, read_of}
+use Rattle.numbers.specs.ReadingLaws.{got-value, got-used, not_got}
 use Rattle.numbers.specs.Leb128Laws.{length_some, within}
-use Rattle.numbers.specs.Handle.{handle_bytes, indirection_bytes, onward, handle_of, stated_after, indirection_of}
-use Rattle.numbers.specs.declared.handle.ReadHandle.{ReadHandle}
-use Rattle.numbers.specs.declared.handle.ReadHandle.TheVariants as handle
-use Rattle.numbers.specs.declared.handle.ReadIndirection.TheVariants as indirection
+use Rattle.numbers.specs.Handle.{handle_bytes, indirection_bytes, onward, handle_of, indirection_of}
 use Rattle.numbers.specs.declared.handle.ValueHandle.{ValueHandle}
 use Rattle.numbers.specs.declared.handle.BlobIndirection.{BlobIndirection}
 
@@ -45,42 +43,42 @@ pub record HandleRead (at : ℕ) (s : List ℕ) (h : ValueHandle) (used : ℕ) :
   pub n : ℕ
   pub m : ℕ
   pub k : ℕ
-  pub offset : read_of 64 at s ≡ number h.offset n
-  pub file : read_of 64 (at + n) s ≡ number h.file m
-  pub size : read_of 32 (at + n + m) s ≡ number h.size k
+  pub offset : read_of 64 at s ≡ got h.offset n
+  pub file : read_of 64 (at + n) s ≡ got h.file m
+  pub size : read_of 32 (at + n + m) s ≡ got h.size k
   pub all : used ≡ n + m + k
 
-pub handle-parts : (at : ℕ) (s : List ℕ) (h : ValueHandle) (used : ℕ) → handle_of at s ≡ handle.Handle h used → HandleRead at s h used
-unfolding handle_of onward
-handle-parts at s h used = first (read_of 64 at s) refl
-  where
-    third : (offset n file m : ℕ) → read_of 64 at s ≡ number offset n → read_of 64 (at + n) s ≡ number file m → (r : Reading) → read_of 32 (at + n + m) s ≡ r
-        → onward handle.Refused r (λ size k. handle.Handle (record { offset = offset; file = file; size = size }) (n + m + k)) ≡ handle.Handle h used → HandleRead at s h used
-    third offset n file m p q (number size k) r e =
-        let f : record { offset = offset; file = file; size = size } ≡ h = cc in
-        record {
-          n = n;
-          m = m;
-          k = k;
-          offset = p ∙ ap (λ (x : ValueHandle). number x.offset n) f;
-          file = q ∙ ap (λ (x : ValueHandle). number x.file m) f;
-          size = r ∙ ap (λ (x : ValueHandle). number x.size k) f;
-          all = cc;
-        }
-    third offset n file m p q (refused why) r e = let z : ◌≡◌ {A = ℕ} 0 1 = cc in absurd (omega arith)
+-- what was got by going on was got first, and then from there
+pub record Onward {A B : Type 0} (r : ReadOf A) (next : A → ℕ → ReadOf B) (value : B) (used : ℕ) : Type 0 where
+  pub first : A
+  pub n : ℕ
+  pub was : r ≡ got first n
+  pub then : next first n ≡ got value used
 
-    second : (offset n : ℕ) → read_of 64 at s ≡ number offset n → (r : Reading) → read_of 64 (at + n) s ≡ r
-        → onward handle.Refused r (λ file m. onward handle.Refused (read_of 32 (at + n + m) s) (λ size k. handle.Handle (record { offset = offset; file = file; size = size }) (n + m + k))) ≡ handle.Handle h used → HandleRead at s h used
-    second offset n p (number file m) q e = third offset n file m p q (read_of 32 (at + n + m) s) refl e
-    second offset n p (refused why) q e = let z : ◌≡◌ {A = ℕ} 0 1 = cc in absurd (omega arith)
+pub onward-parts : {A B : Type 0} (r : ReadOf A) (next : A → ℕ → ReadOf B) (value : B) (used : ℕ) → onward r next ≡ got value used → Onward r next value used
+unfolding onward
+onward-parts (Ok r) next value used e = record { first = r.value; n = r.used; was = refl; then = e }
+onward-parts (Err why) next value used e = not_got e
 
-    first : (r : Reading) → read_of 64 at s ≡ r
-        → onward handle.Refused r (λ offset n. onward handle.Refused (read_of 64 (at + n) s) (λ file m. onward handle.Refused (read_of 32 (at + n + m) s) (λ size k. handle.Handle (record { offset = offset; file = file; size = size }) (n + m + k)))) ≡ handle.Handle h used → HandleRead at s h used
-    first (number offset n) p e = second offset n p (read_of 64 (at + n) s) refl e
-    first (refused why) p e = let z : ◌≡◌ {A = ℕ} 0 1 = cc in absurd (omega arith)
+pub handle-parts : (at : ℕ) (s : List ℕ) (h : ValueHandle) (used : ℕ) → handle_of at s ≡ got h used → HandleRead at s h used
+unfolding handle_of
+handle-parts at s h used e =
+    let a = onward-parts (read_of 64 at s) _ h used e in
+    let b = onward-parts (read_of 64 (at + a.n) s) _ h used a.then in
+    let c = onward-parts (read_of 32 (at + a.n + b.n) s) _ h used b.then in
+    let f = got-value c.then in
+    record {
+      n = a.n;
+      m = b.n;
+      k = c.n;
+      offset = a.was ∙ ap (λ (x : ValueHandle). got x.offset a.n) f;
+      file = b.was ∙ ap (λ (x : ValueHandle). got x.file b.n) f;
+      size = c.was ∙ ap (λ (x : ValueHandle). got x.size c.n) f;
+      all = sym (got-used c.then);
+    }
 
 -- a handle that was read lies whole in the bytes
-pub within-handle : (at : ℕ) (s : List ℕ) (h : ValueHandle) (used : ℕ) → handle_of at s ≡ handle.Handle h used → at + used ≤ length s
+pub within-handle : (at : ℕ) (s : List ℕ) (h : ValueHandle) (used : ℕ) → handle_of at s ≡ got h used → at + used ≤ length s
 within-handle at s h used e =
     let r = handle-parts at s h used e in
     omega (arith, r.all, within 32 (at + r.n + r.m) s h.size r.k r.size)
@@ -89,32 +87,25 @@ within-handle at s h used e =
 pub record IndirectionRead (at : ℕ) (s : List ℕ) (i : BlobIndirection) (used : ℕ) : Type 0 where
   pub n : ℕ
   pub k : ℕ
-  pub handle : handle_of at s ≡ handle.Handle i.handle n
-  pub stated : read_of 32 (at + n) s ≡ number i.stated k
+  pub handle : handle_of at s ≡ got i.handle n
+  pub stated : read_of 32 (at + n) s ≡ got i.stated k
   pub all : used ≡ n + k
 
-pub indirection_parts : (at : ℕ) (s : List ℕ) (i : BlobIndirection) (used : ℕ) → indirection_of at s ≡ indirection.Indirection i used → IndirectionRead at s i used
-unfolding indirection_of stated_after onward
-indirection_parts at s i used = first (handle_of at s) refl
-  where
-    second : (h : ValueHandle) (n : ℕ) → handle_of at s ≡ handle.Handle h n → (r : Reading) → read_of 32 (at + n) s ≡ r
-        → onward indirection.Refused r (λ stated k. indirection.Indirection (record { handle = h; stated = stated }) (n + k)) ≡ indirection.Indirection i used → IndirectionRead at s i used
-    second h n p (number stated k) q e =
-        let f : record { handle = h; stated = stated } ≡ i = cc in
-        record {
-          n = n;
-          k = k;
-          handle = p ∙ ap (λ (x : BlobIndirection). handle.Handle x.handle n) f;
-          stated = q ∙ ap (λ (x : BlobIndirection). number x.stated k) f;
-          all = cc;
-        }
-    second h n p (refused why) q e = let z : ◌≡◌ {A = ℕ} 0 1 = cc in absurd (omega arith)
+pub indirection_parts : (at : ℕ) (s : List ℕ) (i : BlobIndirection) (used : ℕ) → indirection_of at s ≡ got i used → IndirectionRead at s i used
+unfolding indirection_of
+indirection_parts at s i used e =
+    let a = onward-parts (handle_of at s) _ i used e in
+    let b = onward-parts (read_of 32 (at + a.n) s) _ i used a.then in
+    let f = got-value b.then in
+    record {
+      n = a.n;
+      k = b.n;
+      handle = a.was ∙ ap (λ (x : BlobIndirection). got x.handle a.n) f;
+      stated = b.was ∙ ap (λ (x : BlobIndirection). got x.stated b.n) f;
+      all = sym (got-used b.then);
+    }
 
-    first : (r : ReadHandle) → handle_of at s ≡ r → stated_after at s r ≡ indirection.Indirection i used → IndirectionRead at s i used
-    first (handle.Handle h n) p e = second h n p (read_of 32 (at + n) s) refl e
-    first (handle.Refused why) p e = let z : ◌≡◌ {A = ℕ} 0 1 = cc in absurd (omega arith)
-
-pub within_indirection : (at : ℕ) (s : List ℕ) (i : BlobIndirection) (used : ℕ) → indirection_of at s ≡ indirection.Indirection i used → at + used ≤ length s
+pub within_indirection : (at : ℕ) (s : List ℕ) (i : BlobIndirection) (used : ℕ) → indirection_of at s ≡ got i used → at + used ≤ length s
 within_indirection at s i used e =
     let r = indirection_parts at s i used e in
     omega (arith, r.all, within 32 (at + r.n) s i.stated r.k r.stated)

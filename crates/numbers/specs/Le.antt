@@ -12,6 +12,12 @@ num zero l = 0
 num (suc n) [] = 0
 num (suc n) (b ∷ bs) = b + 256 * num n bs
 
+-- the first n bytes of a list; what is missing is 0
+unfoldable pub padded : ℕ → List ℕ → List ℕ
+padded zero l = []
+padded (suc n) [] = 0 ∷ padded n []
+padded (suc n) (b ∷ bs) = b ∷ padded n bs
+
 -- a list of bytes
 abbrev pub Octets : List ℕ → Type 0
 Octets l = (k : ℕ) → slice_index l k < 256

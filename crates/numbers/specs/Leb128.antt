@@ -1,13 +1,9 @@
 -- Unsigned LEB128 (DWARF 5, section 7.6), and what document 01 ("Handles and garbage") says of reading it, once over the width.
-use Rattle.std.specs.Prelude.{ℕ, zero, suc, ◌+◌, ◌*◌, ◌/◌, ◌%◌, ◌^◌, List, [], ◌∷◌, length, take, drop, nat_le, nat_lt, refl}
+use Rattle.std.specs.Prelude.{ℕ, zero, suc, ◌+◌, ◌*◌, ◌/◌, ◌%◌, ◌^◌, List, [], ◌∷◌, length, take, drop, nat_le, nat_lt, Ok, Err, refl}
 use Rattle.numbers.specs.Pick.{pick}
-pub use Rattle.numbers.specs.Reading.{Reading, number, refused}
+pub use Rattle.numbers.specs.Reading.{ReadOf, Reading, got, refused}
 use Rattle.numbers.specs.Refusals.{refuse_read}
 use Rattle.numbers.specs.declared.leb128.NumberRefusal.TheVariants.{CutShort, TooLong}
-use Rattle.numbers.specs.declared.leb128.ReadU64.{ReadU64}
-use Rattle.numbers.specs.declared.leb128.ReadU64.TheVariants as u64
-use Rattle.numbers.specs.declared.leb128.ReadU32.{ReadU32}
-use Rattle.numbers.specs.declared.leb128.ReadU32.TheVariants as u32
 
 -- groups of seven bits, least first; the high bit says that another follows; turns is a bound on the groups
 unfoldable pub spell_in : ℕ → ℕ → List ℕ
@@ -42,7 +38,7 @@ read_in most limit at t =
     let n = carried most t in
     pick (nat_lt n most)
     (pick (nat_lt n (length t))
-    (pick (nat_lt (value_of (take (n + 1) t)) limit) (number (value_of (take (n + 1) t)) (n + 1)) (refuse_read (10 ∷ []) TooLong refl))
+    (pick (nat_lt (value_of (take (n + 1) t)) limit) (got (value_of (take (n + 1) t)) (n + 1)) (refuse_read (10 ∷ []) TooLong refl))
     (refuse_read (7 ∷ at ∷ (n + 1) ∷ n ∷ []) (CutShort (record { at = at; needed = n + 1; present = n })) refl))
     (refuse_read (10 ∷ []) TooLong refl)
 
@@ -54,12 +50,7 @@ groups w = (w + 6) / 7
 abbrev pub read_of : ℕ → ℕ → List ℕ → Reading
 read_of w at s = read_in (groups w) (2 ^ w) at (drop at s)
 
--- the answer of read_u64
-unfoldable pub as_u64 : Reading → ReadU64
-as_u64 (number value used) = u64.Number value used
-as_u64 (refused why) = u64.Refused why
-
--- the answer of read_u32
-unfoldable pub as_u32 : Reading → ReadU32
-as_u32 (number value used) = u32.Number value used
-as_u32 (refused why) = u32.Refused why
+-- the same number as a value of a type of that width
+unfoldable pub read_as : {A : Type 0} → (ℕ → A) → Reading → ReadOf A
+read_as of (Ok r) = got (of r.value) r.used
+read_as of (Err why) = refused why

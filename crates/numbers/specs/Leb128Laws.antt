@@ -1,13 +1,11 @@
 -- Laws of unsigned LEB128: what the calls' proofs and the round trips stand on.
-use Rattle.std.specs.Prelude.{◌≡◌, ℕ, zero, suc, ◌+◌, ◌/◌, ◌%◌, ◌^◌, ◌<◌, ◌≤◌, Bool, true, false, List, [], ◌∷◌, length, take, drop, nat_lt, refl}
+use Rattle.std.specs.Prelude.{◌≡◌, ℕ, zero, suc, ◌+◌, ◌/◌, ◌%◌, ◌^◌, ◌<◌, ◌≤◌, Bool, true, false, List, [], ◌∷◌, length, take, drop, nat_lt, Ok, Err, refl}
 use Rattle.std.proofs.Common.{sym, ap, ◌∙◌, arith, div-lt_iff_lt-mul, pow-suc, lit<, length-drop, lt-ltb, le-ltb, le-leb, ltb-true, ltb-false}
 use Rattle.std.proofs.lemmas.Bool.{lt-leb}
 use Rattle.numbers.specs.Pick.{pick}
-use Rattle.numbers.specs.Leb128.{spell_in, shortest, value_of, carried, Reading, number, refused, read_in, groups, read_of, as_u64, as_u32}
-use Rattle.numbers.specs.declared.leb128.NumberRefusal.{NumberRefusal}
+use Rattle.numbers.specs.ReadingLaws.{got-value, got-used, not_got}
+use Rattle.numbers.specs.Leb128.{spell_in, shortest, value_of, carried, Reading, got, refused, read_in, groups, read_of, read_as}
 use Rattle.numbers.specs.declared.leb128.NumberRefusal.TheVariants.{CutShort, TooLong}
-use Rattle.numbers.specs.declared.leb128.ReadU64.TheVariants as u64
-use Rattle.numbers.specs.declared.leb128.ReadU32.TheVariants as u32
 
 spell_one : (turns x : ℕ) → x < 128 → spell_in turns x ≡ x ∷ []
 unfolding spell_in pick
@@ -89,7 +87,7 @@ carried_on k b bs h = rw (le-leb 128 b h)
 
 -- what is read where n bytes carry on
 pub read_at : (most limit at n : ℕ) (t : List ℕ) → carried most t ≡ n → n < most
-    → read_in most limit at t ≡ pick (nat_lt n (length t)) (pick (nat_lt (value_of (take (n + 1) t)) limit) (number (value_of (take (n + 1) t)) (n + 1)) (refused TooLong)) (refused (CutShort (record { at = at; needed = n + 1; present = n })))
+    → read_in most limit at t ≡ pick (nat_lt n (length t)) (pick (nat_lt (value_of (take (n + 1) t)) limit) (got (value_of (take (n + 1) t)) (n + 1)) (refused TooLong)) (refused (CutShort (record { at = at; needed = n + 1; present = n })))
 unfolding read_in pick
 read_at most limit at n t e h = rw (e, lt-ltb n most h)
 
@@ -101,7 +99,7 @@ pub record Found (most limit : ℕ) (t : List ℕ) (value used : ℕ) : Type 0 w
   pub is : value ≡ value_of (take used t)
   pub small : value < limit
 
-pub found : (most limit at : ℕ) (t : List ℕ) (value used : ℕ) → read_in most limit at t ≡ number value used → Found most limit t value used
+pub found : (most limit at : ℕ) (t : List ℕ) (value used : ℕ) → read_in most limit at t ≡ got value used → Found most limit t value used
 unfolding read_in pick
 found most limit at t value used = go (nat_lt n most) (nat_lt n (length t)) (nat_lt (value_of (take (n + 1) t)) limit) refl refl refl
   where
@@ -109,11 +107,11 @@ found most limit at t value used = go (nat_lt n most) (nat_lt n (length t)) (nat
     n = carried most t
 
     go : (a b c : Bool) → nat_lt n most ≡ a → nat_lt n (length t) ≡ b → nat_lt (value_of (take (n + 1) t)) limit ≡ c
-        → pick a (pick b (pick c (number (value_of (take (n + 1) t)) (n + 1)) (refused TooLong)) (refused (CutShort (record { at = at; needed = n + 1; present = n })))) (refused TooLong) ≡ number value used
+        → pick a (pick b (pick c (got (value_of (take (n + 1) t)) (n + 1)) (refused TooLong)) (refused (CutShort (record { at = at; needed = n + 1; present = n })))) (refused TooLong) ≡ got value used
         → Found most limit t value used
     go true true true p q r e =
-        let u : n + 1 ≡ used = cc in
-        let v : value_of (take (n + 1) t) ≡ value = cc in
+        let u : n + 1 ≡ used = got-used e in
+        let v : value_of (take (n + 1) t) ≡ value = got-value e in
         record {
           last = sym u;
           allowed = omega (arith, ltb-true n most p);
@@ -121,33 +119,18 @@ found most limit at t value used = go (nat_lt n most) (nat_lt n (length t)) (nat
           is = sym v ∙ ap (λ (x : ℕ). value_of (take x t)) u;
           small = omega (arith, ltb-true (value_of (take (n + 1) t)) limit r);
         }
-    go true true false p q r e = let z : ◌≡◌ {A = ℕ} 0 1 = cc in absurd (omega arith)
-    go true false c p q r e = let z : ◌≡◌ {A = ℕ} 0 1 = cc in absurd (omega arith)
-    go false b c p q r e = let z : ◌≡◌ {A = ℕ} 0 1 = cc in absurd (omega arith)
+    go true true false p q r e = not_got e
+    go true false c p q r e = not_got e
+    go false b c p q r e = not_got e
 
 -- a number that was read lies whole in the bytes
-pub within : (w at : ℕ) (s : List ℕ) (value used : ℕ) → read_of w at s ≡ number value used → at + used ≤ length s
+pub within : (w at : ℕ) (s : List ℕ) (value used : ℕ) → read_of w at s ≡ got value used → at + used ≤ length s
 within w at s value used e =
     let f = found (groups w) (2 ^ w) at (drop at s) value used e in
     omega (arith, f.last, f.present, length-drop at s)
 
--- the answers, read backwards
-pub number_u64 : (r : Reading) (value used : ℕ) → u64.Number value used ≡ as_u64 r → r ≡ number value used
-unfolding as_u64
-number_u64 (number v n) value used e = cc
-number_u64 (refused why) value used e = let z : ◌≡◌ {A = ℕ} 0 1 = cc in absurd (omega arith)
-
-pub refused_u64 : (r : Reading) (why : NumberRefusal) → u64.Refused why ≡ as_u64 r → r ≡ refused why
-unfolding as_u64
-refused_u64 (number v n) why e = let z : ◌≡◌ {A = ℕ} 0 1 = cc in absurd (omega arith)
-refused_u64 (refused y) why e = cc
-
-pub number_u32 : (r : Reading) (value used : ℕ) → u32.Number value used ≡ as_u32 r → r ≡ number value used
-unfolding as_u32
-number_u32 (number v n) value used e = cc
-number_u32 (refused why) value used e = let z : ◌≡◌ {A = ℕ} 0 1 = cc in absurd (omega arith)
-
-pub refused_u32 : (r : Reading) (why : NumberRefusal) → u32.Refused why ≡ as_u32 r → r ≡ refused why
-unfolding as_u32
-refused_u32 (number v n) why e = let z : ◌≡◌ {A = ℕ} 0 1 = cc in absurd (omega arith)
-refused_u32 (refused y) why e = cc
+-- at ℕ itself what is read stays as it is
+pub read_as-same : (r : Reading) → read_as (λ x. x) r ≡ r
+unfolding read_as
+read_as-same (Ok r) = refl
+read_as-same (Err why) = refl

@@ -1,10 +1,12 @@
 pub mod Pick
 pub mod Le
 pub mod LeLaws
-pub mod HalfLaws
+pub mod Width
+pub mod BytesLaws
 pub mod Part
 pub mod PartLaws
 pub mod Reading
+pub mod ReadingLaws
 pub mod Refusals
 pub mod Wrote
 pub mod WroteLaws

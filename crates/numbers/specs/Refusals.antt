@@ -1,9 +1,9 @@
 -- Document 01's number for each refusal, and the values that come with it: the definitions of the answers name their refusals by these.
-use Rattle.std.specs.Prelude.{◌≡◌, ℕ, List, [], ◌∷◌}
+use Rattle.std.specs.Prelude.{◌≡◌, ℕ, List, [], ◌∷◌, Result, Err}
 use Rattle.numbers.specs.Reading.{Reading, refused}
 use Rattle.numbers.specs.declared.cut.CutShort.{CutShort}
-use Rattle.numbers.specs.declared.leb128.Wrote.{Wrote}
-use Rattle.numbers.specs.declared.leb128.Wrote.TheVariants.{Used, NoRoom}
+use Rattle.numbers.specs.declared.leb128.WriteRefusal.{WriteRefusal}
+use Rattle.numbers.specs.declared.leb128.WriteRefusal.TheVariants.{NoRoom}
 use Rattle.numbers.specs.declared.leb128.NumberRefusal.{NumberRefusal}
 use Rattle.numbers.specs.declared.leb128.NumberRefusal.TheVariants as refusal
 
@@ -11,10 +11,9 @@ use Rattle.numbers.specs.declared.leb128.NumberRefusal.TheVariants as refusal
 abbrev pub values_of_cut : CutShort → List ℕ
 values_of_cut c = c.at ∷ c.needed ∷ c.present ∷ []
 
--- no room; 0 where nothing is refused
-abbrev pub wrote_number : Wrote → ℕ
-wrote_number (Used n) = 0
-wrote_number NoRoom = 3
+-- no room
+abbrev pub write_number : WriteRefusal → ℕ
+write_number NoRoom = 3
 
 -- cut short, number too long
 abbrev pub read_number : NumberRefusal → ℕ
@@ -30,8 +29,8 @@ read_says why = read_number why ∷ read_values why
 
 -- A refused answer, named together with its number (and values): a wrong pair has no proof, and is refused here.
 
-abbrev pub refuse_wrote : (number : ℕ) (answer : Wrote) → wrote_number answer ≡ number → Wrote
-refuse_wrote number answer e = answer
+abbrev pub refuse_write : (number : ℕ) (why : WriteRefusal) → write_number why ≡ number → Result ℕ WriteRefusal
+refuse_write number why e = Err why
 
 abbrev pub refuse_read : (says : List ℕ) (why : NumberRefusal) → read_says why ≡ says → Reading
 refuse_read says why e = refused why

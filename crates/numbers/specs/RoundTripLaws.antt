@@ -1,25 +1,22 @@
 -- What is written reads back, and what was read shortest is what is written; a caller's proof cites `indirection_back`.
-use Rattle.std.specs.Prelude.{◌≡◌, ℕ, zero, suc, ◌+◌, ◌-◌, ◌^◌, ◌<◌, ◌≤◌, List, ◌++◌, length, take, drop, refl}
+use Rattle.std.specs.Prelude.{◌≡◌, ℕ, zero, suc, ◌+◌, ◌-◌, ◌^◌, ◌<◌, ◌≤◌, List, ◌++◌, length, take, drop, Ok, refl}
 use Rattle.std.proofs.Common.{sym, ap, ◌∙◌, append_assoc, arith, length-append, length-take, drop_at, drop-drop, get_or-drop, take-add}
 use Rattle.std.proofs.lemmas.List.Edits.{sets-eq}
 use Rattle.std.proofs.Math.Seq.{drop-append_seam}
 use Rattle.numbers.specs.Le.{Octets}
 use Rattle.numbers.specs.Wrote.{wrote_of, placed}
 use Rattle.numbers.specs.WroteLaws.{wrote_used}
-use Rattle.numbers.specs.Leb128.{shortest, in_groups, number, read_in, groups, read_of}
+use Rattle.numbers.specs.Leb128.{shortest, in_groups, got, read_in, groups, read_of}
 use Rattle.numbers.specs.Leb128Laws.{length_some, length_most, found}
 use Rattle.numbers.specs.GroupLaws.{reads-groups, shortest-groups, shortest-holds, in_width, found_below, found-groups}
-use Rattle.numbers.specs.Handle.{handle_bytes, indirection_bytes, onward, handle_of, stated_after, indirection_of}
+use Rattle.numbers.specs.Handle.{handle_bytes, indirection_bytes, onward, handle_of, indirection_of}
 use Rattle.numbers.specs.HandleLaws.{length-handle, length_indirection, handle-parts, indirection_parts}
-use Rattle.numbers.specs.declared.leb128.Wrote.TheVariants.{Used}
 use Rattle.numbers.specs.declared.handle.ValueHandle.{ValueHandle}
 use Rattle.numbers.specs.declared.handle.BlobIndirection.{BlobIndirection}
-use Rattle.numbers.specs.declared.handle.ReadHandle.TheVariants as handle
-use Rattle.numbers.specs.declared.handle.ReadIndirection.TheVariants as indirection
 
 -- ---- places
 -- what was written stands at its place, and what was there after it
-pub stands : (bytes buf : List ℕ) (at n : ℕ) → wrote_of bytes at buf ≡ Used n → 1 ≤ length bytes → drop at (placed bytes at buf) ≡ bytes ++ drop (at + length bytes) buf
+pub stands : (bytes buf : List ℕ) (at n : ℕ) → wrote_of bytes at buf ≡ Ok n → 1 ≤ length bytes → drop at (placed bytes at buf) ≡ bytes ++ drop (at + length bytes) buf
 stands bytes buf at n e h =
     let u = wrote_used bytes buf at n e in
     let k : length (take at buf) ≡ at = length-take at buf ∙ (omega (arith, u.1)) in
@@ -31,18 +28,18 @@ pub past : (s a b : List ℕ) (at : ℕ) → drop at s ≡ a ++ b → drop (at +
 past s a b at e = sym (drop-drop (length a) at s) ∙ ap (drop (length a)) e ∙ drop-append_seam a b
 
 -- ---- numbers
-pub reads-back : (w at x : ℕ) (s rest : List ℕ) → 0 < w → x < 2 ^ w → drop at s ≡ shortest x ++ rest → read_of w at s ≡ number x (length (shortest x))
+pub reads-back : (w at x : ℕ) (s rest : List ℕ) → 0 < w → x < 2 ^ w → drop at s ≡ shortest x ++ rest → read_of w at s ≡ got x (length (shortest x))
 reads-back w at x s rest p h e = go (length (shortest x)) refl
   where
-    go : (n : ℕ) → length (shortest x) ≡ n → read_of w at s ≡ number x (length (shortest x))
+    go : (n : ℕ) → length (shortest x) ≡ n → read_of w at s ≡ got x (length (shortest x))
     go zero f = absurd (omega (arith, length_some x))
     go (suc n) f =
         let g : drop at s ≡ in_groups (suc n) x ++ rest = e ∙ ap (λ (l : List ℕ). l ++ rest) (shortest-groups x ∙ ap (λ (k : ℕ). in_groups k x) f) in
         ap (read_in (groups w) (2 ^ w) at) g
         ∙ reads-groups (groups w) (2 ^ w) at n x rest (omega (arith, in_width w x p h)) (rw f at (shortest-holds x)) h
-        ∙ ap (number x) (sym f)
+        ∙ ap (got x) (sym f)
 
-pub none_shorter : (w at value used : ℕ) (s : List ℕ) → read_of w at s ≡ number value used → length (shortest value) ≤ used
+pub none_shorter : (w at value used : ℕ) (s : List ℕ) → read_of w at s ≡ got value used → length (shortest value) ≤ used
 none_shorter w at value used s e =
     let f = found (groups w) (2 ^ w) at (drop at s) value used e in
     let k = used - 1 in
@@ -50,7 +47,7 @@ none_shorter w at value used s e =
     let l : length (shortest value) ≤ suc k = length_most k value (rw u (found_below (groups w) (2 ^ w) (drop at s) value used f)) in
     omega arith
 
-pub writes_back : (w at value used : ℕ) (s : List ℕ) → Octets s → read_of w at s ≡ number value used → used ≡ length (shortest value)
+pub writes_back : (w at value used : ℕ) (s : List ℕ) → Octets s → read_of w at s ≡ got value used → used ≡ length (shortest value)
     → take used (drop at s) ≡ shortest value
 writes_back w at value used s b e u =
     found-groups (groups w) (2 ^ w) (drop at s) value used (λ k. rw (get_or-drop at s k 0) (b (at + k))) (found (groups w) (2 ^ w) at (drop at s) value used e)
@@ -58,7 +55,7 @@ writes_back w at value used s b e u =
 
 -- ---- handles and indirections
 pub handle-back : (h : ValueHandle) (at : ℕ) (s rest : List ℕ) → h.offset < 2 ^ 64 → h.file < 2 ^ 64 → h.size < 2 ^ 32
-    → drop at s ≡ handle_bytes h ++ rest → handle_of at s ≡ handle.Handle h (length (handle_bytes h))
+    → drop at s ≡ handle_bytes h ++ rest → handle_of at s ≡ got h (length (handle_bytes h))
 unfolding handle_bytes handle_of onward
 handle-back h at s rest p q r e =
     let a = shortest h.offset in
@@ -69,21 +66,21 @@ handle-back h at s rest p q r e =
     let e₃ = past s b (c ++ rest) (at + length a) e₂ in
     let n : length a + length b + length c ≡ length (a ++ (b ++ c)) = simp length-append (omega arith) in
     rw (reads-back 64 at h.offset s (b ++ (c ++ rest)) (omega arith) p e₁, reads-back 64 (at + length a) h.file s (c ++ rest) (omega arith) q e₂, reads-back 32 (at + length a + length b) h.size s rest (omega arith) r e₃)
-    (ap (handle.Handle h) n)
+    (ap (got h) n)
 
 pub indirection_back : (i : BlobIndirection) (at : ℕ) (s rest : List ℕ) → i.handle.offset < 2 ^ 64 → i.handle.file < 2 ^ 64 → i.handle.size < 2 ^ 32 → i.stated < 2 ^ 32
-    → drop at s ≡ indirection_bytes i ++ rest → indirection_of at s ≡ indirection.Indirection i (length (indirection_bytes i))
-unfolding indirection_bytes indirection_of stated_after onward
+    → drop at s ≡ indirection_bytes i ++ rest → indirection_of at s ≡ got i (length (indirection_bytes i))
+unfolding indirection_bytes indirection_of onward
 indirection_back i at s rest p q r t e =
     let a = handle_bytes i.handle in
     let b = shortest i.stated in
     let e₁ : drop at s ≡ handle_bytes i.handle ++ (shortest i.stated ++ rest) = e ∙ simp append_assoc in
     let e₂ = past s a (b ++ rest) at e₁ in
     rw (handle-back i.handle at s (b ++ rest) p q r e₁, reads-back 32 (at + length a) i.stated s rest (omega arith) t e₂)
-    (ap (indirection.Indirection i) (sym (length-append a b)))
+    (ap (got i) (sym (length-append a b)))
 
 -- a handle read from as few bytes as it is written in
-pub handle-again : (at : ℕ) (s : List ℕ) (h : ValueHandle) (used : ℕ) → Octets s → handle_of at s ≡ handle.Handle h used
+pub handle-again : (at : ℕ) (s : List ℕ) (h : ValueHandle) (used : ℕ) → Octets s → handle_of at s ≡ got h used
     → used ≡ length (handle_bytes h) → take used (drop at s) ≡ handle_bytes h
 unfolding handle_bytes
 handle-again at s h used b e u =
@@ -103,7 +100,7 @@ handle-again at s h used b e u =
     ∙ take-add n (m + k) (drop at s)
     ∙ rw (drop-drop n at s, take-add m k (drop (at + n) s), drop-drop m (at + n) s, w₁, w₂, w₃)
 
-pub handle_least : (at : ℕ) (s : List ℕ) (h : ValueHandle) (used : ℕ) → handle_of at s ≡ handle.Handle h used → length (handle_bytes h) ≤ used
+pub handle_least : (at : ℕ) (s : List ℕ) (h : ValueHandle) (used : ℕ) → handle_of at s ≡ got h used → length (handle_bytes h) ≤ used
 handle_least at s h used e =
     let r = handle-parts at s h used e in
     let i₁ = none_shorter 64 at h.offset r.n s r.offset in
@@ -111,7 +108,7 @@ handle_least at s h used e =
     let i₃ = none_shorter 32 (at + r.n + r.m) h.size r.k s r.size in
     omega (arith, length-handle h, r.all)
 
-pub indirection_again : (at : ℕ) (s : List ℕ) (i : BlobIndirection) (used : ℕ) → Octets s → indirection_of at s ≡ indirection.Indirection i used
+pub indirection_again : (at : ℕ) (s : List ℕ) (i : BlobIndirection) (used : ℕ) → Octets s → indirection_of at s ≡ got i used
     → used ≡ length (indirection_bytes i) → take used (drop at s) ≡ indirection_bytes i
 unfolding indirection_bytes
 indirection_again at s i used b e u =

@@ -1,34 +1,32 @@
 // Unsigned LEB128 (DWARF 5, section 7.6): written shortest, read with padding.
-ghost use Rattle.std.specs.Prelude.{◌≡◌, ◌+◌, ◌-◌, ◌*◌, ◌^◌, ◌≤◌};
-ghost use Rattle.numbers.specs.Refusals.{wrote_number, read_number};
+ghost use Rattle.std.specs.Prelude.{◌≡◌, ◌*◌};
+ghost use Rattle.numbers.specs.Refusals.{write_number, read_number};
 ghost use Rattle.numbers.specs.Wrote.{wrote_of, placed};
-ghost use Rattle.numbers.specs.Leb128.{shortest, read_of, read_in, as_u64, as_u32};
+ghost use Rattle.numbers.specs.Leb128.{shortest, read_of, read_as};
 
 use crate::bytes::{room, tail};
 use crate::cut::CutShort;
-use crate::octet::wide;
+use crate::number::Number;
 use crate::spell::{size, spell};
 
-#[derive(Clone, Copy)]
-pub enum Wrote {
-    Used(usize),
+#[derive(Clone, Copy, Debug, PartialEq, Eq)]
+pub enum WriteRefusal {
     NoRoom,
 }
 
-#[derive(Clone, Copy)]
+#[derive(Clone, Copy, Debug, PartialEq, Eq)]
 pub enum NumberRefusal {
     CutShort(CutShort),
     TooLong,
 }
 
-impl Wrote {
-    // Document 01's number; 0 where the bytes were written.
+impl WriteRefusal {
+    // Document 01's number.
     pub fn number(self) -> u64
-        ensures { result ≡ wrote_number self }
+        ensures { result ≡ write_number self }
     {
         match self {
-            Wrote::Used(_) => 0,
-            Wrote::NoRoom => 3,
+            WriteRefusal::NoRoom => 3,
         }
     }
 }
@@ -45,94 +43,52 @@ impl NumberRefusal {
     }
 }
 
-#[derive(Clone, Copy)]
-pub enum ReadU64 {
-    Number { value: u64, used: usize },
-    Refused(NumberRefusal),
+// What was read, and how many bytes of it.
+#[derive(Clone, Copy, Debug, PartialEq, Eq)]
+pub struct Decoded<T> {
+    pub value: T,
+    pub used: usize,
 }
 
-#[derive(Clone, Copy)]
-pub enum ReadU32 {
-    Number { value: u32, used: usize },
-    Refused(NumberRefusal),
-}
-
-pub fn write_u64(buf: &mut [u8], at: usize, x: u64) -> Wrote
-    ensures { (result ≡ wrote_of (shortest x) at buf.old) × (buf.new ≡ placed (shortest x) at buf.old) }
+// How many bytes were used.
+pub fn write<T: Number>(buf: &mut [u8], at: usize, x: T) -> Result<usize, WriteRefusal>
+    ensures answer { result ≡ wrote_of (shortest (T.value x)) at buf.old }
+    ensures bytes { buf.new ≡ placed (shortest (T.value x)) at buf.old }
 {
     let n = size(x);
     if room(buf.len(), at) < n {
-        return Wrote::NoRoom;
+        return Err(WriteRefusal::NoRoom);
     }
     spell(buf, at, x);
-    Wrote::Used(n)
+    Ok(n)
 }
 
-pub fn write_u32(buf: &mut [u8], at: usize, x: u32) -> Wrote
-    ensures { (result ≡ wrote_of (shortest x) at buf.old) × (buf.new ≡ placed (shortest x) at buf.old) }
+// The last group that T has may hold what is left of its largest number, and no more.
+pub fn read<T: Number>(s: &[u8], at: usize) -> Result<Decoded<T>, NumberRefusal>
+    ensures { result ≡ read_as T.of (read_of (8 * T.width) at s.now) }
 {
-    write_u64(buf, at, x as u64)
-}
-
-// The number that t begins with, in `most` bytes at most, of which the last allowed holds at most `last`; `at` is where t begins.
-fn read(t: &[u8], at: usize, most: usize, last: u64) -> ReadU64
-    requires { (1 ≤ most) × (most ≤ 10) × (last ≤ 127) × ((last + 1) * 128 ^ (most - 1) ≤ 2 ^ 64) }
-    ensures { result ≡ as_u64 (read_in most ((last + 1) * 128 ^ (most - 1)) at t.now) }
-{
+    let t = tail(s, at);
     let mut value: u64 = 0;
     let mut weight: u64 = 1;
-    let mut i = 0;
-    while i + 1 < most {
-        if t.len() <= i {
-            return ReadU64::Refused(NumberRefusal::CutShort(CutShort {
-                at,
-                needed: i + 1,
-                present: i,
-            }));
+    let mut left = T::MAX;
+    for (i, &byte) in t.iter().enumerate() {
+        let b = u64::from(byte);
+        if left < 128 && left < b {
+            return Err(NumberRefusal::TooLong);
         }
-        let b = wide(t[i]);
         if b < 128 {
-            return ReadU64::Number {
-                value: value + weight * b,
+            return Ok(Decoded {
+                value: T::narrow(value + weight * b),
                 used: i + 1,
-            };
+            });
         }
-        value = value + weight * (b - 128);
-        weight = weight * 128;
-        i += 1;
+        value += weight * (b - 128);
+        weight *= 128;
+        left /= 128;
     }
-    if t.len() <= i {
-        return ReadU64::Refused(NumberRefusal::CutShort(CutShort {
-            at,
-            needed: i + 1,
-            present: i,
-        }));
-    }
-    let b = wide(t[i]);
-    if last < b {
-        return ReadU64::Refused(NumberRefusal::TooLong);
-    }
-    ReadU64::Number {
-        value: value + weight * b,
-        used: i + 1,
-    }
-}
-
-pub fn read_u64(s: &[u8], at: usize) -> ReadU64
-    ensures { result ≡ as_u64 (read_of 64 at s.now) }
-{
-    read(tail(s, at), at, 10, 1)
-}
-
-pub fn read_u32(s: &[u8], at: usize) -> ReadU32
-    ensures { result ≡ as_u32 (read_of 32 at s.now) }
-{
-    let r = read(tail(s, at), at, 5, 15);
-    match r {
-        ReadU64::Number { value, used } => ReadU32::Number {
-            value: value as u32,
-            used,
-        },
-        ReadU64::Refused(why) => ReadU32::Refused(why),
-    }
+    Err(NumberRefusal::CutShort(CutShort {
+        at,
+        needed: t.len() + 1,
+        present: t.len(),
+    }))
 }

@@ -5,6 +5,6 @@ pub mod bytes;
 pub mod cut;
 pub mod handle;
 pub mod leb128;
-mod octet;
+mod number;
 mod spell;
 pub mod wide;

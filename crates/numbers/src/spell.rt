@@ -3,29 +3,29 @@ ghost use Rattle.std.specs.Prelude.{◌≡◌, ◌+◌, ◌≤◌, length};
 ghost use Rattle.std.proofs.lemmas.List.Edits.{sets};
 ghost use Rattle.numbers.specs.Leb128.{shortest};
 
+use crate::number::Number;
+
 // How many bytes the shortest spelling has: one to ten.
-pub(crate) fn size(x: u64) -> usize
-    ensures { (result ≡ length (shortest x)) × (result ≤ 10) }
+pub(crate) fn size<T: Number>(x: T) -> usize
+    ensures size { result ≡ length (shortest (T.value x)) }
+    ensures bound { result ≤ 10 }
 {
-    let mut rest = x;
-    let mut n = 1;
-    while 128 <= rest {
-        rest = rest / 128;
-        n += 1;
-    }
-    n
+    let x: u64 = x.into();
+    let top = x.max(1).ilog2();
+    top as usize / 7 + 1
 }
 
-// Lays the spelling down and answers the place after it.
-pub(crate) fn spell(buf: &mut [u8], at: usize, x: u64) -> usize
-    requires { at + length (shortest x) ≤ length buf.old }
-    ensures { (result ≡ at + length (shortest x)) × (buf.new ≡ sets buf.old at (shortest x)) }
+// Lays the spelling down and answers the place after it. What is left ends the loop, and no count of places.
+pub(crate) fn spell<T: Number>(buf: &mut [u8], at: usize, x: T) -> usize
+    requires { at + length (shortest (T.value x)) ≤ length buf.old }
+    ensures end { result ≡ at + length (shortest (T.value x)) }
+    ensures bytes { buf.new ≡ sets buf.old at (shortest (T.value x)) }
 {
-    let mut left = x;
+    let mut left: u64 = x.into();
     let mut to = at;
     while 128 <= left {
         buf[to] = (left % 128 + 128) as u8;
-        left = left / 128;
+        left /= 128;
         to += 1;
     }
     buf[to] = left as u8;

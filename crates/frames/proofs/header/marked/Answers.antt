@@ -9,4 +9,4 @@ use Rattle.frames.proofs.header.marked.Goals as goal
 
 pub returns : goal.returns
 returns c = let a = c.args in
-    ap (λ (n : ℕ). eqb n a.mark) c.get_u32.ensures ∙ starts-le 4 a.mark a.p.now (search rules) (λ (i : ℕ). omega (arith, c.shared_slice_known-1.given i)) (search rules)
+    ap (λ (n : ℕ). eqb n a.mark) c.get.ensures ∙ starts-le 4 a.mark a.p.now (search rules) (λ (i : ℕ). omega (arith, c.type_inv.p i)) (search rules)

@@ -4,4 +4,4 @@ use Rattle.frames.proofs.header.put_header.Goals as goal
 
 pub returns : goal.returns
 returns c = header-stored _ _ _ _ _ _ _ _ _ _
-    c.put_u32.ensures c.put_u64.ensures c.put_u64-2.ensures c.put_u64-3.ensures c.put_u16.ensures c.put_u32-2.ensures c.put_u32-3.ensures
+    c.put.ensures c.put-2.ensures c.put-3.ensures c.put-4.ensures c.put-5.ensures c.put-6.ensures c.put-7.ensures

@@ -1,30 +1,39 @@
--- A turn takes the list's next pointer; what the turns give is what the batch gives.
-use Rattle.std.proofs.Common.{◌≡◌, ℕ, ◌<◌, ◌≤◌, ◌+◌, List, length, drop, get_or, sym, ap, ◌∙◌, arith, add-one, drop-cons}
-use Rattle.std.proofs.lemmas.List.{at_drop_all}
+-- The drops one after another, or the map as it came in.
+use Rattle.std.proofs.Common.{◌≡◌, true, false, List, Err, map, sym, ◌∙◌}
+use Rattle.numbers.specs.Pick.{pick}
 use Rattle.numbers.specs.declared.handle.BlobIndirection.{BlobIndirection}
-use Rattle.garbage.specs.Drops.{one}
-use Rattle.garbage.specs.Columns.{State, turn_of, fold_pointers, finished}
-use Rattle.garbage.proofs.Batching.{batch_is}
+use Rattle.garbage.specs.declared.map.CountRefusal.TheVariants.{MapFull}
+use Rattle.garbage.specs.declared.map.FragmentationMap.{FragmentationMap}
+use Rattle.garbage.specs.declared.dropped.Dropped.{Dropped}
+use Rattle.garbage.specs.Maps.{entries_of, well_formed}
+use Rattle.garbage.specs.Drops.{one, answered}
+use Rattle.garbage.specs.Batch.{in_turn, batch_of}
+use Rattle.garbage.specs.Columns.{held}
+use Rattle.garbage.proofs.Sound.{told-ready}
+use Rattle.garbage.proofs.Turning.{ended, refused}
 use Rattle.garbage.proofs.batch.drop_all.Goals as goal
 
-next : (ps : List BlobIndirection) (i : ℕ) (p : BlobIndirection) (t u s : State) → i < length ps → u ≡ turn_of t (one (get_or ps i p))
-    → fold_pointers t (drop i ps) ≡ s → fold_pointers u (drop (i + 1) ps) ≡ s
-unfolding fold_pointers
-next ps i p t u s h e f = rw (add-one, e) (sym (ap (fold_pointers t) (drop-cons ps i p h)) ∙ f)
+module _ (m : FragmentationMap) (ps : List BlobIndirection) where
+  malformed : well_formed m ≡ false → ◌≡◌ {A = Dropped} (record { answer = Err MapFull; map = m }) (batch_of m ps)
+  unfolding pick
+  malformed h = sym (rw h)
 
-over : (ps : List BlobIndirection) (i : ℕ) (t s : State) → length ps ≤ i → fold_pointers t (drop i ps) ≡ s → t ≡ s
-unfolding fold_pointers
-over ps i t s h f = sym (at_drop_all (fold_pointers t) ps i h) ∙ f
+  sound : well_formed m ≡ true → answered m (in_turn (map one ps) (entries_of m)) ≡ batch_of m ps
+  unfolding pick
+  sound h = sym (rw h)
 
-pub loop-i-preserved : goal.loop-i-preserved
-loop-i-preserved c = record {
-  within = omega arith;
-  fine = c.step-n.ensures.fine;
-  left = next c.args.pointers.now c.loop-i.i _ _ _ _ c.loop-i-test.true c.step-n.ensures.is c.loop-i.invariant.left;
-}
+pub returns-then-not-well_formed : goal.returns-then-not-well_formed
+returns-then-not-well_formed c = c.refused.ensures ∙ malformed c.args.m c.args.pointers.now (sym c.well_formed-2.ensures ∙ c.if-not-well_formed.true)
 
-pub returns : goal.returns
-returns c =
-    c.finish.ensures
-    ∙ ap (finished c.args.m) (over c.args.pointers.now c.loop-i.i _ _ c.loop-i-test.false c.loop-i.invariant.left)
-    ∙ batch_is c.args.m c.begin-n.ensures.1.whole c.args.pointers.now
+pub drop_each-requires : goal.drop_each-requires
+drop_each-requires c = told-ready c.args.m (sym c.well_formed-2.ensures ∙ c.if-not-well_formed.false) c.told.ensures
+
+pub returns-in-Ok : goal.returns-in-Ok
+returns-in-Ok c =
+    ended c.args.m (held c.drop_each.new.self) c.drop_each.result _ c.drop_each.ensures.ends c.in-Ok.is
+    ∙ sound c.args.m c.args.pointers.now (sym c.well_formed-2.ensures ∙ c.if-not-well_formed.false)
+
+pub returns-in-Err : goal.returns-in-Err
+returns-in-Err c =
+    c.refused-in-Err.ensures ∙ refused c.args.m (held c.drop_each.new.self) c.drop_each.result _ c.in-Err.why c.drop_each.ensures.ends c.in-Err.is
+    ∙ sound c.args.m c.args.pointers.now (sym c.well_formed-2.ensures ∙ c.if-not-well_formed.false)

@@ -16,4 +16,4 @@ fields s at i f a d p q r t = simp drop-drop (cc)
 
 pub returns : goal.returns
 returns c = let p = c.args in
-    fields p.s.now p.at _ _ _ _ c.get_u64.ensures c.get_u32.ensures c.get_u64-2.ensures c.get_u64-3.ensures
+    fields p.s.now p.at _ _ _ _ c.get.ensures c.get-2.ensures c.get-3.ensures c.get-4.ensures

@@ -28,4 +28,4 @@ runs b₀ b₁ b₂ b₃ b₄ at e p q r s =
 
 pub returns : goal.returns
 returns c = let p = c.args in
-    runs p.buf.now _ _ _ _ p.at p.e c.put_u64.ensures c.put_u32.ensures c.put_u64-2.ensures c.put_u64-3.ensures
+    runs p.buf.now _ _ _ _ p.at p.e c.put.ensures c.put-2.ensures c.put-3.ensures c.put-4.ensures

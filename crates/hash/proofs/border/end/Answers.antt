@@ -16,4 +16,4 @@ pub few-requires : goal.few-requires
 few-requires c = omega (arith, whole_length c.args.s.now)
 
 pub returns : goal.returns
-returns c = let s = c.args.s.now in end_short s _ (λ (i : ℕ). omega (arith, c.shared_slice_known-1.given i)) (omega arith) (c.few.ensures ∙ ap (num 8) (take-length s))
+returns c = let s = c.args.s.now in end_short s _ (λ (i : ℕ). (c.type_inv.s i).fits) (omega arith) (c.few.ensures ∙ ap (num 8) (take-length s))

@@ -7,10 +7,10 @@ use Rattle.hash.proofs.Joint.{few-by_fours, few-at_once}
 use Rattle.hash.proofs.border.few.Goals as goal
 
 pub returns-then-n-ge4 : goal.returns-then-n-ge4
-returns-then-n-ge4 c = let s = c.args.s.now in few-by_fours s _ _ (λ (i : ℕ). omega (arith, c.shared_slice_known-1.given i)) (omega arith) (omega arith) c.read32.ensures.0 c.read32.ensures.1 c.read32-then-n-ge4.ensures.0
+returns-then-n-ge4 c = let s = c.args.s.now in few-by_fours s _ _ (λ (i : ℕ). (c.type_inv.s i).fits) (omega arith) (omega arith) c.read32.ensures (omega arith) c.read32-then-n-ge4.ensures
 
-pub slice_bounds-get_u32-end : goal.slice_bounds-get_u32-end
-slice_bounds-get_u32-end c = search (rules, whole_length)
+pub slice_bounds-get-end : goal.slice_bounds-get-end
+slice_bounds-get-end c = search (rules, whole_length)
 
 pub returns : goal.returns
-returns c = let s = c.args.s.now in few-at_once s _ (omega arith) (c.get_u32.ensures ∙ ap (num 4) (take-length s))
+returns c = let s = c.args.s.now in few-at_once s _ (omega arith) (c.get.ensures ∙ ap (num 4) (take-length s))

@@ -1,7 +1,7 @@
--- The table's words are the secret's.
-use Rattle.hash.proofs.SecretWords.{last_law}
-use Rattle.std.proofs.Common.{rules}
+-- The last words of the secret begin at its 121st byte.
+use Rattle.hash.specs.Secret.{secret, secret_length}
 use Rattle.hash.proofs.long.last.Goals as goal
 
 pub returns : goal.returns
-returns c = search (rules, last_law)
+unfolding secret_length secret
+returns c = c.accumulate.ensures

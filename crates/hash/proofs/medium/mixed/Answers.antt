@@ -1,4 +1,4 @@
--- The two accumulators in turn.
+-- Both accumulators.
 use Rattle.hash.proofs.Chunks.{halves_law}
 use Rattle.std.proofs.Common.{rules}
 use Rattle.hash.proofs.medium.mixed.Goals as goal

@@ -1,4 +1,4 @@
--- Both accumulators, stirred.
+-- Both accumulators.
 use Rattle.hash.proofs.Chunks.{stir_law}
 use Rattle.std.proofs.Common.{rules}
 use Rattle.hash.proofs.medium.stir.Goals as goal

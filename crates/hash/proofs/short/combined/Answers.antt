@@ -1,7 +1,8 @@
 -- The same fields in the same places.
-use Rattle.hash.proofs.Small.{combined_law}
-use Rattle.std.proofs.Common.{rules}
+use Rattle.std.proofs.Common.{refl}
+use Rattle.hash.specs.Small.{combined}
 use Rattle.hash.proofs.short.combined.Goals as goal
 
 pub returns : goal.returns
-returns c = search (rules, combined_law)
+unfolding combined
+returns c = refl

@@ -1,7 +1,7 @@
--- Eight bytes joined are the word.
+-- Eight bytes side by side are the word.
+use Rattle.std.proofs.Common.{◌∙◌}
 use Rattle.hash.proofs.Bytes.{word8}
-use Rattle.std.proofs.Common.{rules}
 use Rattle.hash.proofs.words.read64.Goals as goal
 
 pub returns : goal.returns
-returns c = search (rules, word8)
+returns c = c.from_le_bytes.ensures ∙ word8 c.args.s.now c.args.i

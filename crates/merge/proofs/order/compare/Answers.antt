@@ -1,7 +1,7 @@
--- What is left past the part that is alike.
-use Rattle.merge.proofs.Pieces.{left_law}
-use borrow.Author.Rules.{rules}
+-- std's order is this one.
+use Rattle.std.proofs.Common.{◌∙◌}
+use Rattle.merge.specs.OrderLaws.{order_is}
 use Rattle.merge.proofs.order.compare.Goals as goal
 
 pub returns : goal.returns
-returns c = search (rules, left_law)
+returns c = c.cmp.ensures ∙ order_is c.args.a.now c.args.b.now

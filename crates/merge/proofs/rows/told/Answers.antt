@@ -1,20 +1,15 @@
 -- Each answer is a case of the definition.
-use mathlib.Core.Path.{sym}
-use Rattle.merge.specs.RowsLaws.{said_rows, said_full, said_end, said_bad, said_scan}
-use borrow.Author.Rules.{rules}
+use Rattle.merge.specs.RowsLaws.{said_rows, said_full, said_end, said_refused}
 use Rattle.merge.proofs.rows.told.Goals as goal
 
-pub returns-then-fits : goal.returns-then-fits
-returns-then-fits c = sym (search (rules, said_rows))
+pub returns-in_err-first : goal.returns-in_err-first
+returns-in_err-first c = said_refused c.args.first c.args.fits c.args.n _ _ c.in_err-first.was c.from_residual.ensures.1
 
-pub returns-else-fits : goal.returns-else-fits
-returns-else-fits c = sym (search (rules, said_full))
+pub returns-in-Some : goal.returns-in-Some
+returns-in-Some c = said_rows c.args.first c.args.fits c.args.n _ c.in_ok-first.was _ c.in-Some.is c.if-fits.true
 
-pub returns-in-End : goal.returns-in-End
-returns-in-End c = sym (search (rules, said_end))
+pub returns-in-Some-2 : goal.returns-in-Some-2
+returns-in-Some-2 c = said_full c.args.first c.args.fits c.args.n _ c.in_ok-first.was _ c.in-Some-2.is c.if-fits.false
 
-pub returns-in-BadPart : goal.returns-in-BadPart
-returns-in-BadPart c = sym (search (rules, said_bad))
-
-pub returns-in-Scan : goal.returns-in-Scan
-returns-in-Scan c = sym (search (rules, said_scan))
+pub returns-in-None : goal.returns-in-None
+returns-in-None c = said_end c.args.first c.args.fits c.args.n _ c.in_ok-first.was c.in-None.is

@@ -13,4 +13,4 @@ pub spell-requires : goal.spell-requires
 spell-requires c = omega (arith, length-handle c.args.h)
 
 pub returns : goal.returns
-returns c = (omega (arith, length-handle c.args.h), search (rules, handle-laid))
+returns c = record { end = omega (arith, length-handle c.args.h); bytes = search (rules, handle-laid) }

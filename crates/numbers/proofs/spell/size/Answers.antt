@@ -1,19 +1,10 @@
--- The groups counted so far and those of what is left are one more than all.
-use Rattle.std.proofs.Common.{◌^◌, ◌<◌, ◌≤◌, arith, rules}
-use Rattle.numbers.specs.Leb128Laws.{length-one, length_more, length_most}
+-- One group for seven bits, up to the highest that is set.
+use Rattle.std.proofs.Common.{arith}
+use Rattle.numbers.specs.GroupLaws.{groups_to-top}
 use Rattle.numbers.proofs.spell.size.Goals as goal
 
-pub loop-rest-init : goal.loop-rest-init
-loop-rest-init c = let x = c.args.x in
-    let h : x < 2 ^ 64 = search rules in
-    (omega arith, length_most 9 x (omega arith))
-
-pub loop-rest-preserved : goal.loop-rest-preserved
-loop-rest-preserved c = let l = c.loop-rest in
-    let h : 128 ≤ l.rest = search rules in
-    (omega (arith, length_more l.rest h), l.invariant.1)
-
 pub returns : goal.returns
-returns c = let l = c.loop-rest in
-    let h : l.rest < 128 = search rules in
-    omega (arith, length-one l.rest h)
+returns g c = let e = g.met.T.Number.widens c.args.x c.into-x.result c.into-x.ensures in
+    let top = c.ilog2-top.ensures in
+    let is = groups_to-top c.into-x.result c.ilog2-top.result (rw c.max.ensures at top.power_le) (rw c.max.ensures at top.next_power_gt) in
+    record { size = rw e at is; bound = omega (arith, top.bound) }

@@ -12,22 +12,24 @@ last : (b : List ℕ) (to rest : ℕ) → rest < 128 → set b to rest ≡ sets 
 last b to rest h = rw (shortest-one rest h)
 
 pub loop-left-init : goal.loop-left-init
-loop-left-init c = (refl, refl, refl)
+loop-left-init g c =
+    let e = g.met.T.Number.widens c.args.x c.into-left.result c.into-left.ensures in
+    (rw e, rw e, refl)
 
 pub bounds-buf-to : goal.bounds-buf-to
-bounds-buf-to c = let l = c.loop-left in
+bounds-buf-to g c = let l = c.loop-left in
     omega (arith, length_more l.left (search rules))
 
 pub loop-left-preserved : goal.loop-left-preserved
-loop-left-preserved c = let l = c.loop-left in
+loop-left-preserved g c = let l = c.loop-left in
     let h : 128 ≤ l.left = search rules in
     (turn l.buf l.to l.left h ∙ l.invariant.0, omega (arith, length_more l.left h), search rules)
 
 pub bounds-buf-to-2 : goal.bounds-buf-to-2
-bounds-buf-to-2 c = let l = c.loop-left in
+bounds-buf-to-2 g c = let l = c.loop-left in
     omega (arith, length-one l.left (search rules))
 
 pub returns : goal.returns
-returns c = let l = c.loop-left in
+returns g c = let l = c.loop-left in
     let h : l.left < 128 = search rules in
-    (omega (arith, length-one l.left h), last l.buf l.to l.left h ∙ l.invariant.0)
+    record { end = omega (arith, length-one l.left h); bytes = last l.buf l.to l.left h ∙ l.invariant.0 }

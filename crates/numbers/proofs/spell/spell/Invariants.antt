@@ -5,9 +5,10 @@ use Rattle.numbers.specs.Leb128.{shortest}
 use Rattle.numbers.proofs.spell.spell.Given as goal
 
 abbrev pub invariant-loop-left : goal.invariant-loop-left
-invariant-loop-left l = (sets l.buf l.to (shortest l.left) ≡ sets l.initial.buf l.at (shortest l.x))
-    × (l.to + length (shortest l.left) ≡ l.at + length (shortest l.x))
+invariant-loop-left g l = let x = g.T.Number.value l.fn.x in
+    (sets l.buf l.to (shortest l.left) ≡ sets l.initial.buf l.at (shortest x))
+    × (l.to + length (shortest l.left) ≡ l.at + length (shortest x))
     × (length l.buf ≡ length l.initial.buf)
 
 abbrev pub decreases-loop-left : goal.decreases-loop-left
-decreases-loop-left l = l.left
+decreases-loop-left g l = l.left

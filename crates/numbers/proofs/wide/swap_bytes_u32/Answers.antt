@@ -1,7 +1,7 @@
--- The four bytes, in reverse.
-use Rattle.std.proofs.Common.{sym}
-use Rattle.numbers.specs.WideLaws.{swap_word}
+-- The library's reversed bytes are those of the definition.
+use Rattle.std.proofs.Common.{◌∙◌}
+use Rattle.numbers.specs.WideLaws.{swap_four}
 use Rattle.numbers.proofs.wide.swap_bytes_u32.Goals as goal
 
 pub returns : goal.returns
-returns c = sym (swap_word c.args.x c.ranges.x.fits)
+returns c = c.swap_bytes.ensures ∙ swap_four c.args.x

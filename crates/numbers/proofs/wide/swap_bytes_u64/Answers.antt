@@ -1,6 +1,7 @@
--- A word is reversed by reversing its halves and changing their places.
-use Rattle.numbers.specs.WideLaws.{swap_halves}
+-- The library's reversed bytes are those of the definition.
+use Rattle.std.proofs.Common.{◌∙◌}
+use Rattle.numbers.specs.WideLaws.{swap_eight}
 use Rattle.numbers.proofs.wide.swap_bytes_u64.Goals as goal
 
 pub returns : goal.returns
-returns c = cc (swap_halves c.args.x)
+returns c = c.swap_bytes.ensures ∙ swap_eight c.args.x

@@ -1,14 +1,18 @@
 -- Each answer is a case of the definition.
-use mathlib.Core.Path.{sym}
-use Rattle.frames.specs.WriteLaws.{next_early, next_last, next-done}
-use borrow.Author.Rules.{rules}
+use Rattle.std.proofs.Common.{sym}
+use native.Mathlib.Omega.{arith}
+use Rattle.frames.proofs.FinishLaws.{next_early, next_last, next-done}
 use Rattle.frames.proofs.writer.Writer.next_file.Goals as goal
 
 pub returns-then-not-self : goal.returns-then-not-self
-returns-then-not-self c = sym (search (rules, next_early))
+returns-then-not-self c = rw c.refused.ensures (sym (next_early c.args.self c.if-not-self.true))
 
-pub returns-then-self-ge-MOST : goal.returns-then-self-ge-MOST
-returns-then-self-ge-MOST c = sym (search (rules, next_last))
+pub returns-in_default : goal.returns-in_default
+returns-in_default c =
+    let none = c.in_default.ensures in
+    rw c.refused-in_default.ensures (sym (next_last c.args.self c.if-not-self.false (omega arith)))
 
 pub returns : goal.returns
-returns c = sym (search (rules, next-done))
+returns c =
+    let some = c.in-Some.ensures in
+    sym (next-done c.args.self c.if-not-self.false (omega arith) c.new.result _ (rw (← some.1) c.new.ensures) c.use_target_size.ensures)

@@ -7,12 +7,13 @@ use Rattle.numbers.proofs.handle.ValueHandle.encode.Goals as goal
 
 pub returns-then-room-n : goal.returns-then-room-n
 returns-then-room-n c = let a = c.args in
-    wrote_not (handle_bytes a.self) a.buf.now a.at c.handle_size-n.result c.room.result c.handle_size-n.ensures.0 c.room.ensures c.if-room-n.true
+    let w = wrote_not (handle_bytes a.self) a.buf.now a.at _ _ c.handle_size-n.ensures.size c.room.ensures c.if-room-n.true in
+    record { answer = w.0; bytes = w.1 }
 
 pub spell_handle-requires : goal.spell_handle-requires
-spell_handle-requires c = let a = c.args in
-    omega (arith, handle-some a.self)
+spell_handle-requires c = omega (arith, handle-some c.args.self)
 
 pub returns : goal.returns
 returns c = let a = c.args in
-    wrote_all (handle_bytes a.self) a.buf.now _ a.at c.handle_size-n.result c.room.result c.handle_size-n.ensures.0 c.room.ensures c.if-room-n.false c.spell_handle.ensures.1
+    let w = wrote_all (handle_bytes a.self) a.buf.now _ a.at _ _ c.handle_size-n.ensures.size c.room.ensures c.if-room-n.false c.spell_handle.ensures.bytes in
+    record { answer = w.0; bytes = w.1 }

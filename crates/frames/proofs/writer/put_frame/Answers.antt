@@ -1,7 +1,0 @@
--- Key and value are stored and hashed where they lie; the header goes before them.
-use Rattle.frames.specs.LayoutLaws.{frame-stored}
-use borrow.Author.Rules.{rules}
-use Rattle.frames.proofs.writer.put_frame.Goals as goal
-
-pub returns : goal.returns
-returns c = search (rules, frame-stored)

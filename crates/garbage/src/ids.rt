@@ -1,0 +1,25 @@
+// File ids in a slice: whether they ascend, and where an id's place is among them.
+ghost use Rattle.std.specs.Prelude.{◌≡◌, true, MatchResult, ◌&&◌, take, leb};
+ghost use Rattle.garbage.specs.Columns.{rising_from, StandsAt, GoesTo};
+
+// Whether the first `count` of a map's ids are there and strictly ascend.
+pub(crate) fn in_order(count: usize, ids: &[u64; 64]) -> bool
+    ensures { result ≡ (leb count 64 && rising_from 0 (take count ids.now)) }
+{
+    if 64 < count {
+        return false;
+    }
+    ids[..count].is_sorted_by(|a, b| *a < *b)
+}
+
+// Where an id stands among ids that ascend, or where it would be put in.
+pub(crate) fn place(ids: &[u64], id: u64) -> Result<usize, usize>
+    requires { rising_from 0 ids.now ≡ true }
+    ensures { MatchResult result (StandsAt id ids.now) (GoesTo id ids.now) }
+{
+    let i = ids.partition_point(|x| *x < id);
+    if i < ids.len() && ids[i] == id {
+        return Ok(i);
+    }
+    Err(i)
+}

@@ -1,7 +1,0 @@
--- The words and lanes are those of the first stripe.
-use Rattle.std.proofs.Common.{◌++◌}
-use Rattle.hash.proofs.First.{half_law}
-use Rattle.hash.proofs.joined.first_half.Goals as goal
-
-pub returns : goal.returns
-returns c = let a = c.args in half_law (a.key.now ++ a.value.now) _ _ _ _ c.front-a.ensures c.two_lanes-q.ensures c.front-b.ensures c.two_lanes.ensures

@@ -1,7 +1,0 @@
--- The words read are those of the chunk.
-use Rattle.hash.proofs.Chunks.{chunk_law}
-use Rattle.std.proofs.Common.{rules}
-use Rattle.hash.proofs.medium.chunk.Goals as goal
-
-pub returns : goal.returns
-returns c = search (rules, chunk_law)

@@ -1,7 +1,0 @@
--- The first loop's four chunks, and the avalanche after them.
-use Rattle.hash.proofs.JoinedRounds.{open_240}
-use Rattle.std.proofs.Common.{rules}
-use Rattle.hash.proofs.rounds.opening.Goals as goal
-
-pub returns : goal.returns
-returns c = search (rules, open_240)
