@@ -7,9 +7,7 @@ use Rattle.frames.specs.declared.writer.Writer.{Writer}
 use Rattle.frames.specs.declared.writer.Appended.{Appended}
 use Rattle.frames.specs.declared.refused.Refused.{Refused}
 use Rattle.frames.specs.declared.refused.AppendRefusal.{AppendRefusal}
-use Rattle.frames.specs.declared.scanner.ScanEntry.{ScanEntry}
-use Rattle.frames.specs.declared.scanner.ScanRefusal.{ScanRefusal}
-use Rattle.frames.specs.declared.scanner.Step.{Step}
+use Rattle.frames.specs.Scan.{Scanned}
 use Rattle.frames.specs.declared.scanner.Step.TheVariants as scanned
 
 -- a count; refused, the refusal's number below zero, in two's complement
@@ -60,14 +58,14 @@ appended_number (Ok put) = cond (is_some put.report) 100 0
 appended_number (Err refused) = append_number refused.why
 
 -- an entry's numbers, and last where the next step begins; of the end and a refusal that number alone
-abbrev pub step_row : List ℕ → Step ScanEntry ScanRefusal → List ℕ
+abbrev pub step_row : List ℕ → Scanned → List ℕ
 step_row row (scanned.Entry e next) =
     e.offset ∷ e.key.at ∷ e.key.len ∷ e.seqno ∷ e.stated ∷ e.value.at ∷ e.value.len ∷ next.at ∷ []
 step_row row (scanned.End at next) = set row 7 next.at
 step_row row (scanned.Refused why next) = set row 7 next.at
 
 -- 0 for an entry, 100 for the end, else document 01's number
-abbrev pub step_number : Step ScanEntry ScanRefusal → ℕ
+abbrev pub step_number : Scanned → ℕ
 step_number (scanned.Entry e next) = 0
 step_number (scanned.End at next) = 100
 step_number (scanned.Refused why next) = scan_number why

@@ -1,4 +1,4 @@
-// The fragmentation map in lent columns: a drop, a batch of drops, the stored form.
+// The fragmentation map in lent columns: a drop, a batch of drops, the stored form. Count and columns are five parameters, as C lends them.
 ghost use Rattle.std.specs.Prelude.{◌≡◌};
 ghost use Rattle.garbage.specs.Drops.{dropped_of};
 ghost use Rattle.garbage.specs.Maps.{map_at};
@@ -34,7 +34,7 @@ fn map_at(
     }
 }
 
-// A map laid down in lent columns.
+// A map laid down in lent columns. Taken apart first: of `*ids = m.ids` the check says that it does not cover an array stored straight from a field.
 fn put_map(
     m: FragmentationMap,
     count: &mut usize,

@@ -1,4 +1,4 @@
-// Append, scan step and point read.
+// Append, scan step and point read. Writers, entries and answers stay rows and numbers here, as C is handed them.
 ghost use Rattle.std.specs.Prelude.{◌≡◌, length};
 ghost use Rattle.frames.specs.Point.{read_of};
 ghost use Rattle.frames.specs.Shape.{plain_of, blob_form};

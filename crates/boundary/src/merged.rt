@@ -1,4 +1,4 @@
-// The merge in one pass.
+// The merge in one pass. Count and columns are five parameters, as C lends them.
 ghost use Rattle.std.specs.Prelude.{◌≡◌, ◌<◌};
 ghost use Rattle.merge.specs.Rows.{rowed_of, rowed_in};
 ghost use Rattle.boundary.specs.Tables.{table_of, ats_of, rowed_number};

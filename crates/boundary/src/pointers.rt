@@ -57,7 +57,8 @@ fn pointer_at(row: [u64; 3]) -> Result<BlobIndirection, ListRefusal>
     Ok(pointer(file, u32::try_from(size)?, u32::try_from(stated)?))
 }
 
-// The pointers that rows of numbers are, laid down in the list.
+// The pointers that rows of numbers are, laid down in the list: at indices, as of `list.iter_mut().zip(rows)` the proof learns nothing of what the
+// places hold afterwards.
 #[tactic(auto, unfolding(crate::specs::Pointers::pointers_in, numbers::specs::Pick::pick))]
 pub(crate) fn pointers_in<'a>(
     list: &'a mut [BlobIndirection; 1024],

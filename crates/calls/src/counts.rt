@@ -46,6 +46,7 @@ fn one_by_one(map: FragmentationMap, pointers: &[BlobIndirection]) -> Dropped {
 
 pub fn batch(input: &mut Input, out: &mut Output, map: &mut FragmentationMap) -> Result<(), Stop> {
     let n = input.bounded(256)?;
+    // All zeros by hand: a pointer to no frame is no default of the type's.
     let nowhere = BlobIndirection {
         handle: ValueHandle {
             offset: 0,

@@ -8,7 +8,7 @@ use frames::writer::{AppendRefusal, Appended, Closed, Refused, Report, Writer};
 use std::io::Write;
 use std::{fmt, io};
 
-// A place's first byte and length.
+// A place's first byte and length, as this program's lines have them (docs/CALLS.md).
 #[derive(Clone, Copy)]
 struct At(Place);
 
@@ -63,6 +63,12 @@ struct Desk<'a> {
 }
 
 impl Desk<'_> {
+    // The writer that a refusal hands back is the one to go on with.
+    fn refused(&mut self, out: &mut Output, number: u64, writer: Writer) -> io::Result<()> {
+        self.writer = writer;
+        writeln!(out, "refused {number}")
+    }
+
     fn appended(
         &mut self,
         out: &mut Output,
@@ -77,10 +83,7 @@ impl Desk<'_> {
                     None => Ok(()),
                 }
             }
-            Err(Refused { why, writer }) => {
-                self.writer = writer;
-                writeln!(out, "refused {}", why.number())
-            }
+            Err(Refused { why, writer }) => self.refused(out, why.number(), writer),
         }
     }
 
@@ -109,10 +112,7 @@ impl Desk<'_> {
                 self.writer = writer;
                 done(out, report)
             }
-            Err(Refused { why, writer }) => {
-                self.writer = writer;
-                writeln!(out, "refused {}", why.number())
-            }
+            Err(Refused { why, writer }) => self.refused(out, why.number(), writer),
         }
     }
 
@@ -125,13 +125,11 @@ impl Desk<'_> {
                 self.room.fill(0xEE);
                 writeln!(out, "next {}", writer.id)
             }
-            Err(Refused { why, writer }) => {
-                self.writer = writer;
-                writeln!(out, "refused {}", why.number())
-            }
+            Err(Refused { why, writer }) => self.refused(out, why.number(), writer),
         }
     }
 
+    // The kinds are the format's (docs/CALLS.md), and their calls take different things.
     fn step(&mut self, input: &mut Input, out: &mut Output) -> Result<(), Stop> {
         match input.number()? {
             0 => self.plain(input, out)?,

@@ -6,7 +6,7 @@ use hash::{Hash128, xxh3_128, xxh3_128_joined};
 use std::fmt;
 use std::io::Write;
 
-// A sum's two halves, the low one first.
+// A sum's two halves, the low one first, as this program's lines have them (docs/CALLS.md).
 #[derive(Clone, Copy)]
 pub struct Sum(pub Hash128);
 

@@ -5,7 +5,7 @@ use crate::stop::Stop;
 use crate::{counts, judges, stores};
 use garbage::map::{CountRefusal, FragmentationMap};
 
-// A step of one map, by its kind.
+// A step of one map, by its kind. The kinds are the format's (docs/CALLS.md), and their calls take different things.
 fn one(
     input: &mut Input,
     out: &mut Output,

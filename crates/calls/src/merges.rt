@@ -20,9 +20,10 @@ fn part(input: &mut Input) -> Result<Part, Malformed> {
     })
 }
 
-// The state that is told: a count, and then as many parts. Those past the sixteenth are read over.
+// The state that is told: a count, of any size, and then as many parts. Those past the sixteenth are read over.
 pub fn table(input: &mut Input) -> Result<MergeScanner, Malformed> {
     let count = input.number()? as usize;
+    // All zeros by hand: an empty part of file 0 is no default of the type's.
     let none = Part {
         start: 0,
         length: 0,
@@ -32,8 +33,8 @@ pub fn table(input: &mut Input) -> Result<MergeScanner, Malformed> {
     let mut parts = [none; 16];
     for i in 0..count {
         let told = part(input)?;
-        if i < parts.len() {
-            parts[i] = told;
+        if let Some(place) = parts.get_mut(i) {
+            *place = told;
         }
     }
     Ok(MergeScanner { count, parts })

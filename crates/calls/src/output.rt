@@ -58,7 +58,7 @@ pub fn whole(out: &mut Output, room: &[u8]) -> io::Result<()> {
     writeln!(out, "bytes {}", Hex(room))
 }
 
-// Done, or the number of the refusal.
+// Done, or the number of the refusal. Each caller gives the number: a trait over the refusals would stand in the library for these lines alone.
 pub fn done(out: &mut Output, answer: Result<(), u64>) -> io::Result<()> {
     match answer {
         Ok(()) => writeln!(out, "ok"),

@@ -24,7 +24,7 @@ pub fn pointer(input: &mut Input) -> Result<BlobIndirection, Malformed> {
     })
 }
 
-// An indirection's numbers: id, offset, on-disk size and stated length.
+// An indirection's numbers: id, offset, on-disk size and stated length. The form is this program's (docs/CALLS.md), and no property of the type.
 #[derive(Clone, Copy)]
 pub struct Numbers(pub BlobIndirection);
 

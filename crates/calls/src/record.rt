@@ -1,9 +1,10 @@
-// The records of a batch, by their letters.
+// The records of a batch, by their letters. Input and output are two parameters: more than half of the functions take one of them alone.
 use crate::input::Input;
 use crate::output::Output;
 use crate::stop::Stop;
 use crate::{drains, files, groups, hashes, maps, merges, pointers, points, scans};
 
+// A match and no table: the letters are the format's (docs/CALLS.md), and each stands beside its call.
 fn answer(letter: u8, input: &mut Input, out: &mut Output) -> Result<(), Stop> {
     match letter {
         b'H' => hashes::joined(input, out),

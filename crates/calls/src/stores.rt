@@ -38,7 +38,7 @@ pub fn pruned(input: &mut Input, out: &mut Output, map: &mut FragmentationMap) -
     Ok(())
 }
 
-// A map in any state: entries past the sixty-fourth are read over.
+// A map in any state: entries past the sixty-fourth are read over. By slot, as a map has four columns and no iterator that fills them.
 fn state(input: &mut Input) -> Result<FragmentationMap, Malformed> {
     let mut map = FragmentationMap::new();
     map.count = input.number()? as usize;

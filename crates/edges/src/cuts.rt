@@ -1,4 +1,4 @@
-// What 7, cut short, carries: where reading began, the bytes needed, the bytes present. Lines of the calls program do not have them yet.
+// What 7, cut short, carries: where reading began, the bytes needed, the bytes present. Lines of the calls program do not have them.
 use crate::shown::Cut;
 use frames::reader::look;
 use frames::scanner::{ScanRefusal, Scanned, Scanner};
@@ -120,6 +120,7 @@ fn loads(rt: &impl Print) -> io::Result<()> {
 // A merge of the file's bytes from 2 on, all but its last one; places count from the part's start.
 fn merged(rt: &impl Print, file: &[u8], at: usize) -> io::Result<()> {
     println!(rt; "a merge's part from 2 on, cut in META")?;
+    // All zeros by hand: an empty part of file 0 is no default of the type's.
     let none = Part {
         start: 0,
         length: 0,

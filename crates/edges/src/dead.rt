@@ -1,6 +1,7 @@
 // "a file of values 3 and 0 long is dead after dropping the 3": the file is written, and judged by the report and the pointers that its writer gave.
 use crate::shown::Pointer;
 use frames::writer::{Report, Writer};
+use garbage::batch::drop_listed;
 use garbage::map::FragmentationMap;
 use garbage::verdict::{DeadVerdict, StaleVerdict, is_dead, is_stale};
 use numbers::bytes::part;
@@ -49,6 +50,21 @@ fn judged(rt: &impl Print, m: FragmentationMap, r: Report) -> io::Result<()> {
     }
 }
 
+// A line where the two pointers, dropped as a list, give another map than one by one. The list's others are not looked at.
+fn listed(
+    rt: &impl Print,
+    empty: BlobIndirection,
+    long: BlobIndirection,
+    m: FragmentationMap,
+) -> io::Result<()> {
+    let mut list = [long; 1024];
+    list[0] = empty;
+    if drop_listed(FragmentationMap::new(), list, 2).map == m {
+        return Ok(());
+    }
+    println!(rt; " listed: another map")
+}
+
 // Both drops, in both orders.
 fn drops(
     rt: &impl Print,
@@ -66,7 +82,9 @@ fn drops(
     let second = dropped(rt, none, empty)?;
     judged(rt, second, r)?;
     print!(rt; "the 0, then the 3:")?;
-    judged(rt, dropped(rt, second, long)?, r)
+    let both = dropped(rt, second, long)?;
+    judged(rt, both, r)?;
+    listed(rt, empty, long, both)
 }
 
 pub fn edges(rt: &impl Print) -> io::Result<()> {

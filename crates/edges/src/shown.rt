@@ -1,4 +1,4 @@
-// How what the calls answer is shown on a line.
+// How what the calls answer is shown on a line. The forms are this program's: another writes a cut or a pointer by a format of its own.
 use numbers::cut::CutShort;
 use numbers::handle::BlobIndirection;
 use std::fmt;

@@ -48,6 +48,7 @@ pub(crate) fn read_header(p: &[u8]) -> Header
     }
 }
 
+// The header's bytes from `at` on; a line for each field, at the place that the document's table gives.
 pub(crate) fn put_header(buf: &mut [u8], at: usize, h: Header)
     requires { at + header_length < 2 ^ 64 }
     ensures { buf.new ≡ sets buf.old at (header_bytes h) }

@@ -33,6 +33,7 @@ pub enum NextRefusal {
 }
 
 impl AppendRefusal {
+    // Document 01's number.
     pub fn number(self) -> u64
         ensures { result ≡ append_number self }
     {
@@ -47,6 +48,7 @@ impl AppendRefusal {
 }
 
 impl FinishRefusal {
+    // Document 01's number.
     pub fn number(self) -> u64
         ensures { result ≡ finish_number self }
     {
@@ -59,6 +61,7 @@ impl FinishRefusal {
 }
 
 impl NextRefusal {
+    // Document 01's number.
     pub fn number(self) -> u64
         ensures { result ≡ next_number self }
     {

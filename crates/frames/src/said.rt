@@ -1,4 +1,4 @@
-// What a writer's refusal says, in words.
+// What a writer's refusal says, in words for a reader; without a contract, since no clause of the documents speaks of printed words.
 use super::refused::{AppendRefusal, FinishRefusal, NextRefusal, Refused};
 use std::error::Error;
 use std::fmt;

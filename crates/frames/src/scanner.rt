@@ -54,6 +54,7 @@ pub enum FrameRefusal {
     InvalidHeader { at: usize },
 }
 
+// A frame's two cases stand here again, beside the third: document 01's step has one refusal with its details, which a caller takes apart by one match.
 #[derive(Clone, Copy, Debug, PartialEq, Eq)]
 pub enum ScanRefusal {
     CutShort(CutShort),

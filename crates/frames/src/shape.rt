@@ -1,7 +1,8 @@
 // A frame's lengths: what a writer needs to know of a frame that it takes.
-ghost use Rattle.std.specs.Prelude.{◌≡◌, ◌<◌, ◌≤◌, ◌^◌};
+ghost use Rattle.std.specs.Prelude.{◌≡◌, ◌<◌, ◌^◌};
 ghost use Rattle.frames.specs.Shape.{size_of};
 
+// A caller's lengths may be any: 1 and 2 refuse those past a header's numbers, so no type bounds them, and what is called after asks for the bounds.
 #[derive(Clone, Copy)]
 pub struct Shape {
     // bytes before the key
@@ -15,7 +16,7 @@ pub struct Shape {
 
 impl Shape {
     pub(crate) fn size(self) -> usize
-        requires key { self.key ≤ 65535 }
+        requires key { self.key < 65536 }
         requires value { self.value < 2 ^ 32 }
         ensures { result ≡ size_of self }
     {

@@ -23,12 +23,14 @@ pub struct Writer {
     pub disk: u64,
     pub stated: u64,
     pub target: u64,
+    // Whether META is written. A caller may hand in either, with any counts.
     pub finished: bool,
     pub first: Place,
     pub last: Place,
 }
 
-// What finishing a file reports.
+// What finishing a file reports: five of the writer's numbers, handed out at the end. As a field of the writer it would be there before the end, too,
+// and `counted` and `grown`, which set all five at each append, would build a struct inside a struct.
 #[derive(Clone, Copy, Debug, PartialEq, Eq)]
 pub struct Report {
     pub items: u64,
@@ -108,9 +110,7 @@ impl Writer {
     pub fn answer(self, n: usize, shape: Shape) -> Result<Appended, Refused<AppendRefusal>>
         ensures { result ≡ answered self n shape }
     {
-        let writer = self
-            .grown(n, shape)
-            .map_err(|why| Refused { why, writer: self })?;
+        let writer = self.grown(n, shape).map_err(|why| self.refused(why))?;
         Ok(Appended {
             pointer: self.pointer(shape),
             writer,

@@ -57,7 +57,8 @@ pub fn drop_all(m: FragmentationMap, pointers: &[BlobIndirection]) -> Dropped
     }
 }
 
-// A batch for a caller with no slice to lend: the first `n` pointers of a list, or all that it has.
+// A batch for a caller with no slice to lend: the first `n` pointers of a list, or all that it has. docs/PROMISES.md and docs/LEDGER.md (G3)
+// name it so, the list by value with a count.
 pub fn drop_listed(m: FragmentationMap, list: [BlobIndirection; 1024], n: usize) -> Dropped
     ensures { result ≡ batch_of m (take n list) }
 {

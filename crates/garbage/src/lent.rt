@@ -9,6 +9,8 @@ ghost use Rattle.garbage.specs.Columns.{held, Same, Told, Ready, Rising, Whole, 
 use crate::ids::{in_order, place};
 use crate::map::{CountRefusal, FragmentationEntry};
 
+// Whoever lends a map takes it apart in place: of a method that returned the five references, no clause tells a caller what the map holds after
+// them. Through `&mut self` a method could lay another reference in a field's place: `Same` says that none does.
 #[derive(Drop)]
 pub(crate) struct Lent<'a> {
     pub(crate) count: &'a mut usize,
@@ -89,6 +91,7 @@ impl<'a> Lent<'a> {
         ensures same { Same self.old self.new }
         ensures is { record { answer = result; map = held self.new } ≡ answered (held self.old) (judged (added e (entries_of (held self.old)))) }
     {
+        // As in the map's `entry`: a function for both would be handed the four columns one by one, as they stand here.
         let there = FragmentationEntry {
             id: self.ids[i],
             frames: self.frames[i],

@@ -1,10 +1,11 @@
 // The map by value: at most 64 file ids, ascending, in four columns.
-ghost use Rattle.std.specs.Prelude.{◌≡◌, ◌<◌, Some, None, Option};
+ghost use Rattle.std.specs.Prelude.{◌≡◌, ◌<◌, true, false, Some, None, Option, MatchResult};
 ghost use Rattle.numbers.specs.Pick.{pick};
 ghost use Rattle.garbage.specs.Entries.{plus, fits};
 ghost use Rattle.garbage.specs.Maps.{columns_of, empty_map, entry_at, well_formed};
 ghost use Rattle.garbage.specs.Lookups.{lookup_of};
 ghost use Rattle.garbage.specs.Refusals.{count_number, full_number};
+ghost use Rattle.garbage.specs.declared.map.CountRefusal.TheVariants as refusal;
 
 use crate::ids::{in_order, place};
 
@@ -59,6 +60,14 @@ impl CountRefusal {
     }
 }
 
+impl From<MapFull> for CountRefusal {
+    ghost from_gives = { λ why e. e ≡ refusal.MapFull };
+
+    fn from(_why: MapFull) -> CountRefusal {
+        CountRefusal::MapFull
+    }
+}
+
 impl FragmentationEntry {
     // The totals of two entries of one id, where none passes its width.
     pub(crate) fn plus(self, e: FragmentationEntry) -> Option<FragmentationEntry>
@@ -92,7 +101,17 @@ impl FragmentationMap {
         in_order(self.count, &self.ids)
     }
 
-    // The entry at slot `i`.
+    // What comes before all else in every call: one that hands the map back asks `well_formed`, and refuses with the map.
+    pub(crate) fn sound(&self) -> Result<(), MapFull>
+        ensures { MatchResult result (λ _. well_formed self.now ≡ true) (λ _. well_formed self.now ≡ false) }
+    {
+        if self.well_formed() {
+            return Ok(());
+        }
+        Err(MapFull)
+    }
+
+    // The entry at slot `i`. A walk over entries counts slots: the four columns have no iterator of entries.
     pub(crate) fn entry(&self, i: usize) -> FragmentationEntry
         requires { i < 64 }
         ensures { result ≡ entry_at (columns_of self.now) i }
@@ -109,9 +128,7 @@ impl FragmentationMap {
     pub fn get(self, id: u64) -> Result<Option<FragmentationEntry>, MapFull>
         ensures { result ≡ lookup_of self id }
     {
-        if !self.well_formed() {
-            return Err(MapFull);
-        }
+        self.sound()?;
         match place(&self.ids[..self.count], id) {
             Ok(i) => Ok(Some(self.entry(i))),
             Err(_) => Ok(None),

@@ -54,7 +54,8 @@ impl FragmentationMap {
         }
     }
 
-    // Whether all of the source fits on what is held.
+    // Whether all of the source fits on what is held. By `all` the proof stops at `entry`'s bound: of a closure called on each item, the lemma
+    // for `all` does not tell that the item lies in the range.
     fn takes_all(&self, source: &FragmentationMap) -> bool
         requires { (source.now.count ≤ 64) × (well_formed self.now ≡ true) }
         ensures { result ≡ sums_fit (entries_of source.now) (entries_of self.now) }

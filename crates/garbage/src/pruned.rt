@@ -60,9 +60,7 @@ impl FragmentationMap {
     pub fn stale_bytes(self) -> Result<u64, CountRefusal>
         ensures { result ≡ stale_bytes_of self }
     {
-        if !self.well_formed() {
-            return Err(CountRefusal::MapFull);
-        }
+        self.sound()?;
         let mut total: u64 = 0;
         for bytes in &self.disk[..self.count] {
             total = total.checked_add(*bytes).ok_or(CountRefusal::SumTooBig)?;

@@ -1,4 +1,4 @@
-// The ratio of two lengths in binary32: each rounded to 24 bits in integers, scaled exactly, then one division.
+// The ratio of two lengths in binary32, in document 01's form: each rounded to 24 bits in integers, scaled exactly, then one division.
 ghost use Rattle.std.specs.Prelude.{◌≡◌, ◌+◌, ◌*◌, ◌^◌, ◌<◌, ◌≤◌, pos};
 ghost use Rattle.std.specs.Float.{binary32};
 ghost use Rattle.std.specs.Float.Ieee.{of_int};

@@ -3,8 +3,9 @@ ghost use Rattle.std.specs.Prelude.{◌≡◌};
 ghost use Rattle.garbage.specs.Records.{record_of};
 ghost use Rattle.garbage.specs.Refusals.{record_number};
 ghost use Rattle.garbage.specs.declared.record.RecordRefusal.TheVariants.{Number, Count};
+ghost use Rattle.garbage.specs.declared.map.CountRefusal.TheVariants as refusal;
 
-use crate::map::{CountRefusal, FragmentationMap};
+use crate::map::{CountRefusal, FragmentationMap, MapFull};
 use numbers::handle::BlobIndirection;
 use numbers::leb128::NumberRefusal;
 
@@ -50,14 +51,20 @@ impl From<CountRefusal> for RecordRefusal {
     }
 }
 
+impl From<MapFull> for RecordRefusal {
+    ghost from_gives = { λ why e. e ≡ Count refusal.MapFull };
+
+    fn from(why: MapFull) -> RecordRefusal {
+        RecordRefusal::Count(CountRefusal::from(why))
+    }
+}
+
 impl FragmentationMap {
     // A record counted where the map stands; refused, nothing changes.
     fn count_record(&mut self, marked: bool, encoded: &[u8]) -> Result<(), RecordRefusal>
         ensures { record { answer = result; map = self.new } ≡ record_of self.old marked encoded.now }
     {
-        if !self.well_formed() {
-            return Err(RecordRefusal::Count(CountRefusal::MapFull));
-        }
+        self.sound()?;
         if !marked {
             return Ok(());
         }
@@ -66,7 +73,8 @@ impl FragmentationMap {
         Ok(())
     }
 
-    // What follows the indirection is left.
+    // What follows the indirection is left. docs/PROMISES.md names this call with its mark, which may be false beside any bytes: 11 comes
+    // before it is looked at.
     pub fn drop_record(self, marked: bool, encoded: &[u8]) -> RecordDropped
         ensures { result ≡ record_of self marked encoded.now }
     {

@@ -1,10 +1,11 @@
 // The stored form: a count, then 28 bytes for each entry.
-ghost use Rattle.std.specs.Prelude.{◌≡◌, ◌+◌, ◌*◌, ◌≤◌, length, drop, [], MatchResult};
+ghost use Rattle.std.specs.Prelude.{◌≡◌, ◌+◌, ◌*◌, ◌<◌, ◌≤◌, length, drop, [], MatchResult};
 ghost use Rattle.std.proofs.lemmas.List.Edits.{sets};
 ghost use Rattle.garbage.specs.Maps.{columns_of, empty_map, entries_of, map_at, holding};
 ghost use Rattle.garbage.specs.Columns.{held, Same, Whole};
 ghost use Rattle.garbage.specs.Refusals.{store_number, load_number};
 ghost use Rattle.garbage.specs.Stored.{entry_bytes, entries_bytes, entry_in, entries_in, instead_all, store_answer, store_bytes, stored_count, load_of};
+ghost use Rattle.garbage.specs.declared.stored.LoadRefusal.TheVariants as load;
 
 use crate::ids::in_order;
 use crate::lent::Lent;
@@ -77,7 +78,7 @@ fn get_entry(s: &[u8], at: usize) -> FragmentationEntry
     }
 }
 
-// The first `n` entries, from 4 on.
+// The first `n` entries, from 4 on, of columns that C lends apart: no map has them, of which `entry` would tell one.
 fn put_entries(
     n: usize,
     ids: &[u64; 64],
@@ -125,33 +126,37 @@ pub fn store_columns<'a>(
     Ok(need)
 }
 
+// Of the bytes from `at` on, `present` are there.
+fn enough(at: usize, needed: usize, present: usize) -> Result<(), LoadRefusal>
+    ensures { MatchResult result (λ _. needed ≤ present)
+        (λ why. (present < needed) × (why ≡ load.CutShort (record { at = at; needed = needed; present = present }))) }
+{
+    if present < needed {
+        return Err(LoadRefusal::CutShort(CutShort {
+            at,
+            needed,
+            present,
+        }));
+    }
+    Ok(())
+}
+
 // How many entries stand after the count, which are all there.
 fn stored_count(s: &[u8]) -> Result<usize, LoadRefusal>
     ensures { result ≡ stored_count s.now }
 {
-    if s.len() < 4 {
-        return Err(LoadRefusal::CutShort(CutShort {
-            at: 0,
-            needed: 4,
-            present: s.len(),
-        }));
-    }
+    enough(0, 4, s.len())?;
     let count = get::<u32>(s, 0) as usize;
     if 64 < count {
         return Err(LoadRefusal::MapFull);
     }
-    if s.len() - 4 < 28 * count {
-        return Err(LoadRefusal::CutShort(CutShort {
-            at: 4,
-            needed: 28 * count,
-            present: s.len() - 4,
-        }));
-    }
+    enough(4, 28 * count, s.len() - 4)?;
     Ok(count)
 }
 
 impl<'a> Lent<'a> {
-    // The `k` entries that stand from 4 on.
+    // The `k` entries that stand from 4 on, each where put_entries puts it. Pieces of `chunks_exact` would need their end, too, and an entry read
+    // at 0 of each.
     fn read(&mut self, s: &[u8], k: usize)
         requires { (k ≤ 64) × (4 + 28 * k ≤ length s.now) × Whole (columns_of (held self.old)) × ((held self.old).count ≡ 0) }
         ensures same { Same self.old self.new }

@@ -7,7 +7,7 @@ use crate::map::{FragmentationMap, MapFull};
 use crate::ratio::ratio;
 use frames::writer::Report;
 
-// Refused: the map is malformed. No Result, in the form that document 01 names for the stale verdict.
+// Refused: the map is malformed. No Result: `DeadVerdict::number` is promised (docs/PROMISES.md), of each of the four.
 #[derive(Clone, Copy)]
 pub enum DeadVerdict {
     Dead,

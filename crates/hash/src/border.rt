@@ -7,11 +7,11 @@ use super::text::{Text, Two, chunk};
 use super::words::{read32, read64};
 use numbers::bytes::get;
 
-// The key's last eight bytes at the top of a word, and the value's first eight.
+// Key and value; the key's last eight bytes at the top of a word, and the value's first eight.
 #[derive(Clone, Copy)]
 pub(crate) struct Joined<'a> {
-    key: &'a [u8],
-    value: &'a [u8],
+    pub(crate) key: &'a [u8],
+    pub(crate) value: &'a [u8],
     end: u64,
     head: u64,
     ghost key_octets: { Octets key.now },
@@ -55,6 +55,7 @@ fn end(s: &[u8]) -> u64
     (few(&s[..n]) << (56 - 8 * (n as u32))) << 8
 }
 
+// Clauses spell the text out: by its name, `⟦<Joined as Text>⟧.bytes self.now`, they are no shorter.
 impl<'a> Joined<'a> {
     pub(crate) fn new(key: &'a [u8], value: &'a [u8]) -> Self
         ensures { (result.key.now ≡ key.now) × (result.value.now ≡ value.now) }

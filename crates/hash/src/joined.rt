@@ -1,4 +1,4 @@
-// Key and value as one string.
+// Key and value as one string. The classes take the two slices of the call: up to 16 bytes, and of an empty key above 240, no Joined is made.
 ghost use Rattle.std.specs.Prelude.{◌≡◌, ◌+◌, ◌-◌, ◌*◌, ◌/◌, ◌<◌, ◌≤◌, ◌++◌, length, take, drop};
 ghost use Rattle.hash.specs.Notation.{u64s};
 ghost use Rattle.hash.specs.Secret.{secret_length};
@@ -79,18 +79,18 @@ pub(crate) fn upto_240(key: &[u8], value: &[u8]) -> Hash128
 }
 
 // The 64 bytes from i on, of which the first stand in key.
-fn across(key: &[u8], value: &[u8], i: usize) -> [u8; 64]
-    requires { (i ≤ length key.now) × (length key.now ≤ i + 64) × (i + 64 ≤ length key.now + length value.now) }
-    ensures { result ≡ take 64 (drop i (key.now ++ value.now)) }
+fn across(s: &Joined, i: usize) -> [u8; 64]
+    requires { (i ≤ length s.now.key.now) × (length s.now.key.now ≤ i + 64) × (i + 64 ≤ length s.now.key.now + length s.now.value.now) }
+    ensures { result ≡ take 64 (drop i (s.now.key.now ++ s.now.value.now)) }
 {
     let mut buf = [0u8; 64];
-    let m = key.len() - i;
-    copy(&mut buf, 0, &key[i..]);
-    copy(&mut buf, m, &value[..64 - m]);
+    let m = s.key.len() - i;
+    copy(&mut buf, 0, &s.key[i..]);
+    copy(&mut buf, m, &s.value[..64 - m]);
     buf
 }
 
-// The first stripe, read by words.
+// The first stripe, read by words; i is the secret's place, too.
 fn first(s: &Joined) -> [u64; 8]
     requires { 64 ≤ length s.now.key.now + length s.now.value.now }
     ensures { result ≡ stripes_of (s.now.key.now ++ s.now.value.now) 0 0 1 acc_large }
@@ -105,55 +105,55 @@ fn first(s: &Joined) -> [u64; 8]
 }
 
 // The stripes that begin in key, p of them whole, with the one that crosses to value.
-fn border(key: &[u8], value: &[u8], p: usize) -> [u64; 8]
-    requires { (p ≡ length key.now / 64) × (64 * (p + 1) ≤ length key.now + length value.now) }
-    ensures { result ≡ stripes_of (key.now ++ value.now) 0 0 (p + 1) acc_large }
+fn border(s: &Joined, p: usize) -> [u64; 8]
+    requires { (p ≡ length s.now.key.now / 64) × (64 * (p + 1) ≤ length s.now.key.now + length s.now.value.now) }
+    ensures { result ≡ stripes_of (s.now.key.now ++ s.now.value.now) 0 0 (p + 1) acc_large }
 {
-    let b = across(key, value, 64 * p);
-    long::go_on(long::begin(key, p), &b, 0, p, 1)
+    let b = across(s, 64 * p);
+    long::go_on(long::begin(s.key, p), &b, 0, p, 1)
 }
 
 // A first stripe that crosses is read by words.
-fn stripes(key: &[u8], value: &[u8]) -> [u64; 8]
-    requires { 240 < length key.now + length value.now }
-    ensures { result ≡ stripes_of (key.now ++ value.now) 0 0 ((length key.now + length value.now - 1) / 64) acc_large }
+fn stripes(s: &Joined) -> [u64; 8]
+    requires { 240 < length s.now.key.now + length s.now.value.now }
+    ensures { result ≡ stripes_of (s.now.key.now ++ s.now.value.now) 0 0 ((length s.now.key.now + length s.now.value.now - 1) / 64) acc_large }
 {
-    let m = key.len();
-    let v = value.len();
+    let m = s.key.len();
+    let v = s.value.len();
     let p = m / 64;
     let n = (m + v - 1) / 64;
     if p == 0 {
-        let r = first(&Joined::new(key, value));
+        let r = first(s);
         if n <= 8 {
-            return early::stripes(r, &value[..v], 64 - m, n - 1);
+            return early::stripes(r, &s.value[..v], 64 - m, n - 1);
         }
-        return long::go_on(r, &value[..v], 64 - m, 1, n - 1);
+        return long::go_on(r, &s.value[..v], 64 - m, 1, n - 1);
     }
     if n <= p {
-        return long::begin(key, n);
+        return long::begin(s.key, n);
     }
-    let r = border(key, value, p);
-    long::go_on(r, &value[..v], 64 * (p + 1) - m, p + 1, n - (p + 1))
+    let r = border(s, p);
+    long::go_on(r, &s.value[..v], 64 * (p + 1) - m, p + 1, n - (p + 1))
 }
 
-fn last(acc: [u64; 8], key: &[u8], value: &[u8]) -> [u64; 8]
-    requires { 64 ≤ length key.now + length value.now }
-    ensures { result ≡ accumulate (u64s (key.now ++ value.now) (length key.now + length value.now - 64)) (secret_length - 71) acc }
+fn last(acc: [u64; 8], s: &Joined) -> [u64; 8]
+    requires { 64 ≤ length s.now.key.now + length s.now.value.now }
+    ensures { result ≡ accumulate (u64s (s.now.key.now ++ s.now.value.now) (length s.now.key.now + length s.now.value.now - 64)) (secret_length - 71) acc }
 {
-    let n = value.len();
+    let n = s.value.len();
     if 64 <= n {
-        return long::last(acc, value, n - 64);
+        return long::last(acc, s.value, n - 64);
     }
-    let b = across(key, value, key.len() + n - 64);
+    let b = across(s, s.key.len() + n - 64);
     long::last(acc, &b, 0)
 }
 
-fn large(key: &[u8], value: &[u8]) -> Hash128
-    requires { 240 < length key.now + length value.now }
-    ensures { result ≡ xxh3_128 (key.now ++ value.now) }
+fn large(s: &Joined) -> Hash128
+    requires { 240 < length s.now.key.now + length s.now.value.now }
+    ensures { result ≡ xxh3_128 (s.now.key.now ++ s.now.value.now) }
 {
-    let n = (key.len() + value.len()) as u64;
-    long::finish(last(stripes(key, value), key, value), n)
+    let n = s.len() as u64;
+    long::finish(last(stripes(s), s), n)
 }
 
 fn from_241(key: &[u8], value: &[u8]) -> Hash128
@@ -165,7 +165,7 @@ fn from_241(key: &[u8], value: &[u8]) -> Hash128
     if key.len() == 0 {
         return long::over_240(value);
     }
-    large(key, value)
+    large(&Joined::new(key, value))
 }
 
 pub(crate) fn over_240(key: &[u8], value: &[u8]) -> Hash128

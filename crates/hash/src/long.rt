@@ -30,7 +30,7 @@ pub(crate) fn lane(acc: [u64; 8], k: usize, d: u64, x: u64) -> [u64; 8]
     r
 }
 
-// One stripe: the 64 bytes of s from i on, the words of the secret from o on.
+// One stripe: the 64 bytes of s from i on, the words of the secret from o on. k is the place of the bytes and of the secret's word, too.
 pub(crate) fn accumulate(acc: [u64; 8], s: &[u8], i: usize, o: usize) -> [u64; 8]
     requires { (i + 64 ≤ length s.now) × (o ≤ 128) }
     ensures { result ≡ accumulate (u64s s.now i) o acc }
@@ -47,9 +47,9 @@ fn scramble(acc: [u64; 8]) -> [u64; 8]
     ensures { result ≡ round_scramble acc }
 {
     let mut r = acc;
-    for k in 0..8 {
-        let x = (r[k] ^ (r[k] >> 47)) ^ word(128 + 8 * k);
-        r[k] = x.wrapping_mul(PRIME32_1);
+    for (k, lane) in r.iter_mut().enumerate() {
+        let x = (*lane ^ (*lane >> 47)) ^ word(128 + 8 * k);
+        *lane = x.wrapping_mul(PRIME32_1);
     }
     r
 }
@@ -93,7 +93,7 @@ pub(crate) fn last(acc: [u64; 8], s: &[u8], i: usize) -> [u64; 8]
     accumulate(acc, s, i, 121)
 }
 
-// A half of the hash: all accumulators go into r, with the words of the secret from o on.
+// A half of the hash: all accumulators go into r, with the words of the secret from o on; i is their place, too.
 fn merge(acc: [u64; 8], r: u64, o: usize) -> u64
     requires { o ≤ 128 }
     ensures { result ≡ final_merge acc r o }

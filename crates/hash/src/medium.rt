@@ -89,7 +89,7 @@ fn onward<T: Text>(acc: Acc, s: &T, i: usize, o: usize) -> Acc
     mixed(acc, s.front(32 * i), s.front(32 * i + 16), o)
 }
 
-// One round; and two, with no test between them.
+// One round, with no test: by from_17_to_128, a key and value of 32 bytes take 150 instructions and not 118.
 pub(crate) fn from_17_to_32<T: Text>(s: &T) -> Hash128
     requires { (16 < length (T.bytes s.now)) × (length (T.bytes s.now) ≤ 32) }
     ensures { result ≡ xxh3_128 (T.bytes s.now) }
@@ -98,6 +98,7 @@ pub(crate) fn from_17_to_32<T: Text>(s: &T) -> Hash128
     finish(inward(start(n), s, 0), n)
 }
 
+// Two rounds, with no test between them: by from_17_to_128, a key and value of 50 bytes take 183 instructions and not 163.
 pub(crate) fn from_33_to_64<T: Text>(s: &T) -> Hash128
     requires { (32 < length (T.bytes s.now)) × (length (T.bytes s.now) ≤ 64) }
     ensures { result ≡ xxh3_128 (T.bytes s.now) }
@@ -125,7 +126,8 @@ pub(crate) fn from_17_to_128<T: Text>(s: &T) -> Hash128
     finish(inward(acc, s, 0), n as u64)
 }
 
-// The chunks stand one by one: with the first four in a loop, a key and value of 200 bytes take 416 instructions and not 354.
+// The chunks stand one by one: with the first four in a loop, a key and value of 200 bytes take 411 instructions and not 348; with the last three in one, a slice
+// of 240 bytes takes 280 and not 269.
 pub(crate) fn from_129_to_240<T: Text>(s: &T) -> Hash128
     requires { (128 < length (T.bytes s.now)) × (length (T.bytes s.now) ≤ 240) }
     ensures { result ≡ xxh3_128 (T.bytes s.now) }

@@ -19,7 +19,7 @@ fn empty() -> Hash128
     }
 }
 
-// The bytes of one to three, with their number. Joined by `|`: by from_le_bytes the classes share their ends, and 16 bytes take 72 instructions and not 71.
+// The bytes of one to three, with their number, joined by `|` as the description writes it: what it gives is the description's own words.
 fn combined(s: &[u8]) -> u32
     requires { (0 < length s.now) × (length s.now ≤ 3) }
     ensures { result ≡ combinedOf s.now }

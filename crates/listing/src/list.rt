@@ -2,7 +2,7 @@
 use frames::scanner::{Scanned, Scanner};
 use std::io;
 
-// A frame's line: offset, key length, seqno, stated and on-disk length. A scan of n bytes is over within n/4 + 1 steps.
+// A frame's line: offset, key length, seqno, stated and on-disk length. A scan of n bytes is over within n/4 + 1 steps: a bound, and no index.
 pub fn list(rt: &impl Print, file: &[u8]) -> io::Result<()> {
     let mut scanner = Scanner::new();
     for _ in 0..=file.len() / 4 {

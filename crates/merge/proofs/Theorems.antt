@@ -139,7 +139,7 @@ by_left (suc k) image m = given-by_answer image m k (next_of m image).answer ref
 
 -- sixteen parts have at most sixteen times the image's bytes
 left_in_lem : (size n : ℕ) (ps : List Part) → all_inside size (take n ps) ≡ true → left_in n ps ≤ n * size
-unfolding left_in all_inside
+unfolding left_in
 left_in_lem size zero ps h = omega arith
 left_in_lem size (suc n) [] h = omega arith
 left_in_lem size (suc n) (p ∷ ps) h =

@@ -1,5 +1,6 @@
 -- Laws of one pass that writes rows: its cases, and one row more.
-use Rattle.std.specs.Prelude.{set, ℕ, zero, suc, ◌+◌, ◌*◌, ◌-◌, ◌<◌, ◌≤◌, ◌≡◌, refl, List, [], ◌∷◌, ◌++◌, Bool, true, false, ltb, leb, length, Option, Some, None, Result, Ok, Err, IsErrAnd}
+use Rattle.std.specs.Prelude.{set, ℕ, zero, suc, ◌+◌, ◌*◌, ◌-◌, ◌<◌, ◌≤◌, ◌≡◌, refl, List, [], ◌∷◌, ◌++◌, Bool, true, false, ltb, leb, length, Option, Some, None, Result, Ok, Err, IsErrAnd, is_some, unwrap_or}
+use Rattle.std.specs.Bool.{then_some}
 use Rattle.std.proofs.Common.{sym, ap, subst, ◌∙◌, arith, lt-ltb, le-ltb, leb-true, leb-false}
 use Rattle.std.proofs.lemmas.List.Edits.{sets}
 use Rattle.std.proofs.Math.Seq.{length-sets}
@@ -37,6 +38,14 @@ module _ {T : Type 0} (a : Result (Option T) MergeRefusal) (fits : Bool) (n : �
   pub said_refused : (w : MergeRefusal) (r : RowsAnswer) → a ≡ Err w → IsErrAnd r (λ e. e ≡ refusal.Merge w) → r ≡ rows_said a fits n
   unfolding rows_said
   said_refused w r h i = rw h (refused-same w r i)
+
+-- told of the rows written where one fits, it is what is told of whether one does and of how many
+said_written : {T : Type 0} (a : Result (Option T) MergeRefusal) (fits : Bool) (n : ℕ) → rows_said a (is_some (then_some fits n)) (unwrap_or (then_some fits n) 0) ≡ rows_said a fits n
+unfolding rows_said pick
+said_written a true n = refl
+said_written (Ok (Some x)) false n = refl
+said_written (Ok None) false n = refl
+said_written (Err w) false n = refl
 
 -- a call that gives no entry changes nothing
 pub record Stays (image : List ℕ) (m : MergeScanner) : Type 0 where
@@ -155,11 +164,11 @@ module _ (image : List ℕ) (m : MergeScanner) (b : List ℕ) where
     w : Wrote image m b s b' n
     w = subst (λ (k : MergeScanner). Wrote image k b s b' n) same-state (subst (λ (k : List ℕ). Wrote k m' b s b' n) same-image wrote)
 
-    pub rowed : table_ok (length image) m ≡ true → (f : Foremost) → f ≡ front_of i m' → (a : RowsAnswer) → a ≡ rows_said f (leb 9 (length b)) n → record { state = s; answer = a } ≡ rowed_of m image b
+    pub rowed : table_ok (length image) m ≡ true → (f : Foremost) → f ≡ front_of i m' → (a : RowsAnswer) (o : Option ℕ) → o ≡ then_some (leb 9 (length b)) n → a ≡ rows_said f (is_some o) (unwrap_or o 0) → record { state = s; answer = a } ≡ rowed_of m image b
     unfolding rowed_of
-    rowed t f e a q =
+    rowed t f e a o u q =
         let g = subst (λ (k : MergeScanner). f ≡ front_of image k) same-state (subst (λ (k : List ℕ). f ≡ front_of k m') same-image e) in
-        rw (w.state, q, said-front t f g (leb 9 (length b)) n, w.count, whole_row _ refl)
+        rw (w.state, q, u, said_written f (leb 9 (length b)) n, said-front t f g (leb 9 (length b)) n, w.count, whole_row _ refl)
 
     pub numbered : b' ≡ rowed_in m image b
     numbered = w.numbers

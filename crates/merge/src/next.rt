@@ -5,7 +5,7 @@ ghost use Rattle.merge.specs.Merge.{next_of};
 use super::heads::MergeEntry;
 use super::parts::MergeScanner;
 use super::pass::Pass;
-use super::refusals::MergeRefusal;
+pub use super::refusals::MergeRefusal;
 
 #[derive(Clone, Copy, PartialEq, Eq)]
 pub struct Merged {
@@ -24,6 +24,7 @@ impl MergeScanner {
                 answer: Err(MergeRefusal::BadPart),
             };
         }
+        // Case by case, the state beside the answer: by `if let` and `map` the answer would be taken apart twice.
         match Pass::begin(image, self).front() {
             Ok(Some(first)) => {
                 let mut state = self;

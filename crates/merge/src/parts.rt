@@ -11,7 +11,7 @@ pub struct Part {
     pub at: usize,
 }
 
-// The parts from 0 up to `count`; those beyond are not looked at.
+// The parts from 0 up to `count`; those beyond are not looked at. The memory is fixed, and a count above 16 may come in: `next` refuses it by 13.
 #[derive(Clone, Copy, PartialEq, Eq)]
 pub struct MergeScanner {
     pub count: usize,

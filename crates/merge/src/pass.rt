@@ -14,7 +14,7 @@ use super::tournament::{build, climb};
 pub(crate) struct Pass<'a> {
     image: &'a [u8],
     pub(crate) state: MergeScanner,
-    // Leaf 16 + i is the head of part i.
+    // Leaf 16 + i is the head of part i. An array: the library has no heap.
     tree: [Option<Head>; 32],
     // The refusal of the lowest part that refuses.
     refusal: Option<MergeRefusal>,
@@ -52,8 +52,8 @@ impl<'a> Pass<'a> {
     {
         let mut tree = [None; 32];
         let mut refusal = None;
-        for i in 0..state.count {
-            let shown = head_at(image, i, state.parts[i]);
+        for (i, part) in state.parts[..state.count].iter().enumerate() {
+            let shown = head_at(image, i, *part);
             refusal = refusal.or(keep(&mut tree, 16 + i, shown));
         }
         build(image, &mut tree);

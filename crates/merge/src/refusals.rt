@@ -1,4 +1,4 @@
-// The refusals of the merge, with document 01's numbers.
+// The refusals of the merge.
 ghost use Rattle.std.specs.Prelude.{◌≡◌};
 ghost use Rattle.merge.specs.declared.refusals.RowsRefusal.TheVariants as rows;
 ghost use Rattle.merge.specs.declared.refusals.DrainRefusal.TheVariants as drain;
@@ -41,6 +41,7 @@ impl From<MergeRefusal> for DrainRefusal {
 }
 
 impl MergeRefusal {
+    // Document 01's number.
     pub fn number(self) -> u64
         ensures { result ≡ merge_number self }
     {
@@ -52,6 +53,7 @@ impl MergeRefusal {
 }
 
 impl RowsRefusal {
+    // Document 01's number.
     pub fn number(self) -> u64
         ensures { result ≡ rows_number self }
     {
@@ -63,6 +65,7 @@ impl RowsRefusal {
 }
 
 impl DrainRefusal {
+    // Document 01's number.
     pub fn number(self) -> u64
         ensures { result ≡ drain_number self }
     {

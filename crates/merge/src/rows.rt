@@ -1,12 +1,13 @@
 // The merge in one pass: entries as rows of nine numbers.
-ghost use Rattle.std.specs.Prelude.{◌≡◌, ◌+◌, ◌≤◌, length};
+ghost use Rattle.std.specs.Prelude.{◌≡◌, ◌+◌, ◌≤◌, length, is_some, unwrap_or};
 ghost use Rattle.std.proofs.lemmas.List.Edits.{sets};
 ghost use Rattle.merge.specs.Rows.{row_of, rows_said, Wrote, rowed_of, rowed_in};
 
 use super::heads::{Head, MergeEntry};
 use super::parts::MergeScanner;
 use super::pass::Pass;
-use super::refusals::{MergeRefusal, RowsRefusal};
+use super::refusals::MergeRefusal;
+pub use super::refusals::RowsRefusal;
 
 // How many rows were written, or none at the end; or the refusal that stands before the first.
 #[derive(Clone, Copy)]
@@ -31,18 +32,17 @@ fn put_row(rows: &mut [u64], at: usize, x: MergeEntry)
     rows[at + 8] = x.value.len as u64;
 }
 
-// What is told of n rows where that goes first before them.
+// What is told of the rows written, none where no row fits, where that goes first before them.
 fn told(
     first: Result<Option<Head>, MergeRefusal>,
-    fits: bool,
-    n: usize,
+    written: Option<usize>,
 ) -> Result<Option<usize>, RowsRefusal>
-    ensures { result ≡ rows_said first fits n }
+    ensures { result ≡ rows_said first (is_some written) (unwrap_or written 0) }
 {
-    match first? {
-        Some(_) if fits => Ok(Some(n)),
-        Some(_) => Err(RowsRefusal::NoRoom),
-        None => Ok(None),
+    match (first?, written) {
+        (Some(_), Some(n)) => Ok(Some(n)),
+        (Some(_), None) => Err(RowsRefusal::NoRoom),
+        (None, _) => Ok(None),
     }
 }
 
@@ -52,6 +52,7 @@ fn write(pass: &mut Pass, rows: &mut [u64]) -> usize
     ensures wrote { Wrote pass.old.image.now pass.old.state rows.old pass.new.state rows.new result }
 {
     let whole = rows.len() / 9;
+    // By the row's number, which is the answer wherever the loop ends.
     for done in 0..whole {
         let Ok(Some(first)) = pass.front() else {
             return done;
@@ -80,7 +81,7 @@ impl MergeScanner {
         let n = write(&mut pass, rows);
         Rowed {
             state: pass.state,
-            answer: told(first, fits, n),
+            answer: told(first, fits.then_some(n)),
         }
     }
 }

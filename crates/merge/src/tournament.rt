@@ -32,7 +32,7 @@ fn wins(image: &[u8], x: &Option<Head>, y: &Option<Head>) -> bool
     goes_first(image, &a.entry, &b.entry)
 }
 
-// Node j anew, from the two below it.
+// Node j anew, from the two below it. No method of `Pass`: every node of a pass is won, and here some are not yet.
 fn play(image: &[u8], tree: &mut [Option<Head>; 32], j: usize)
     requires { j < 16 }
     ensures { tree.new ≡ set tree.old j (winner image.now (node_at tree.old (2 * j)) (node_at tree.old (2 * j + 1))) }

@@ -5,6 +5,7 @@ ghost use Rattle.numbers.specs.Part.{behind};
 
 pub use crate::number::{get, put};
 
+// `room` and `lesser` are the library's `saturating_sub` and `min`: they stay as public calls that docs/PROMISES.md names.
 // How many of n stand from at on; none where at is past them.
 pub fn room(n: usize, at: usize) -> usize
     ensures { result ≡ n - at }

@@ -1,4 +1,5 @@
 // Products of words of 64 bits, and turns and swaps of words: the library's, promised in the words of the definitions.
+// Each stays, the two swaps by their widths, as a public call that docs/PROMISES.md names.
 ghost use Rattle.std.specs.Prelude.{◌≡◌, ◌*◌, ◌/◌, ◌^◌};
 ghost use Rattle.numbers.specs.Wide.{mul64, wide_of, rotl32, bswap};
 

@@ -37,6 +37,7 @@ fn vector(rt: &impl Print, s: &[u8]) -> io::Result<()> {
 
 fn main(rt: HostRuntime) -> io::Result<()> {
     let bytes = input();
+    // By length: no iterator gives the beginnings of a slice.
     for n in 0..=bytes.len() {
         vector(&rt, &bytes[..n])?;
     }

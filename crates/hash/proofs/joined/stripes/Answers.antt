@@ -8,7 +8,7 @@ pub slice_bounds-stripes-end : goal.slice_bounds-stripes-end
 slice_bounds-stripes-end c = search (rules, whole_length)
 
 pub stripes-requires : goal.stripes-requires
-stripes-requires c = let a = c.args in (omega (arith, whole_length a.value.now), omega arith, omega arith)
+stripes-requires c = let a = c.args in (omega (arith, whole_length a.s.now.value.now), omega arith, omega arith)
 
 pub returns-then-n-le8 : goal.returns-then-n-le8
 returns-then-n-le8 c = search (rules, after_first)
@@ -17,7 +17,7 @@ pub slice_bounds-go_on-end : goal.slice_bounds-go_on-end
 slice_bounds-go_on-end c = search (rules, whole_length)
 
 pub go_on-requires : goal.go_on-requires
-go_on-requires c = let a = c.args in omega (arith, whole_length a.value.now)
+go_on-requires c = let a = c.args in omega (arith, whole_length a.s.now.value.now)
 
 pub returns-then-p-eq0 : goal.returns-then-p-eq0
 returns-then-p-eq0 c = search (rules, after_first)
@@ -29,7 +29,7 @@ pub slice_bounds-go_on-end-2 : goal.slice_bounds-go_on-end-2
 slice_bounds-go_on-end-2 c = search (rules, whole_length)
 
 pub go_on-requires-2 : goal.go_on-requires-2
-go_on-requires-2 c = let a = c.args in omega (arith, whole_length a.value.now)
+go_on-requires-2 c = let a = c.args in omega (arith, whole_length a.s.now.value.now)
 
 pub returns : goal.returns
 returns c = search (rules, after_border)

@@ -6,4 +6,4 @@ use Rattle.hash.specs.Large.{scramble_lane}
 use Rattle.hash.proofs.long.scramble.Given as goal
 
 abbrev pub invariant-loop-k : goal.invariant-loop-k
-invariant-loop-k l = l.r ≡ for_up l.k (scramble_lane (u64s secret (secret_length - 64))) l.initial.r
+invariant-loop-k l = l.lane-items ≡ for_up l.k (scramble_lane (u64s secret (secret_length - 64))) l.fn.acc

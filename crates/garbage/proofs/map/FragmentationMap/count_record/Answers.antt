@@ -33,19 +33,22 @@ unread : (m : FragmentationMap) (why : NumberRefusal) → ◌≡◌ {A = RecordD
 unread m (number.CutShort cut) = refl
 unread m number.TooLong = refl
 
-pub returns-then-not-well_formed : goal.returns-then-not-well_formed
-returns-then-not-well_formed c = malformed c.args.self.now c.args.marked c.args.encoded.now (sym c.well_formed-2.ensures ∙ c.if-not-well_formed.true)
+pub returns-in_err-sound : goal.returns-in_err-sound
+returns-in_err-sound c =
+    let r : c.from_residual.result ≡ Err (Count MapFull) = search rules in
+    ap (λ (a : Result (Unit {0}) RecordRefusal). record { answer = a; map = c.args.self.now }) r
+    ∙ malformed c.args.self.now c.args.marked c.args.encoded.now (c.in_err-sound.ensures {u = tt})
 
 pub returns-then-not-marked : goal.returns-then-not-marked
-returns-then-not-marked c = unmarked c.args.self.now c.args.marked c.args.encoded.now (sym c.well_formed-2.ensures ∙ c.if-not-well_formed.false) c.if-not-marked.true
+returns-then-not-marked c = unmarked c.args.self.now c.args.marked c.args.encoded.now (c.in_ok-sound.ensures {u = tt}) c.if-not-marked.true
 
 pub returns-in_err-decoded : goal.returns-in_err-decoded
 returns-in_err-decoded c =
-    let r : c.from_residual.result ≡ Err (Number c.in_err-decoded.field-0.0) = search rules in
+    let r : c.from_residual-in_err-decoded.result ≡ Err (Number c.in_err-decoded.field-0.0) = search rules in
     let d : c.decode.result ≡ Err c.in_err-decoded.field-0.0 = search rules in
     ap (λ (a : Result (Unit {0}) RecordRefusal). record { answer = a; map = c.args.self.now }) r
     ∙ unread c.args.self.now _
-    ∙ marked c.args.self.now c.args.marked c.args.encoded.now (sym c.well_formed-2.ensures ∙ c.if-not-well_formed.false) c.if-not-marked.false
+    ∙ marked c.args.self.now c.args.marked c.args.encoded.now (c.in_ok-sound.ensures {u = tt}) c.if-not-marked.false
     c.decode.result _ d c.decode.ensures
 
 pub returns-in_err-count_drop : goal.returns-in_err-count_drop
@@ -54,12 +57,12 @@ returns-in_err-count_drop c =
     let d : c.decode.result ≡ Ok c.in_ok-decoded.decoded = search rules in
     ap (λ (a : Result (Unit {0}) RecordRefusal). record { answer = a; map = c.count_drop.new.self }) r
     ∙ ap read (c.in_err-count_drop.ensures {u = tt})
-    ∙ marked c.args.self.now c.args.marked c.args.encoded.now (sym c.well_formed-2.ensures ∙ c.if-not-well_formed.false) c.if-not-marked.false
+    ∙ marked c.args.self.now c.args.marked c.args.encoded.now (c.in_ok-sound.ensures {u = tt}) c.if-not-marked.false
     c.decode.result _ d c.decode.ensures
 
 pub returns : goal.returns
 returns c =
     let d : c.decode.result ≡ Ok c.in_ok-decoded.decoded = search rules in
     ap read (c.in_ok-count_drop.ensures {u = tt})
-    ∙ marked c.args.self.now c.args.marked c.args.encoded.now (sym c.well_formed-2.ensures ∙ c.if-not-well_formed.false) c.if-not-marked.false
+    ∙ marked c.args.self.now c.args.marked c.args.encoded.now (c.in_ok-sound.ensures {u = tt}) c.if-not-marked.false
     c.decode.result _ d c.decode.ensures

@@ -19,20 +19,22 @@ module _ (m : FragmentationMap) (id : ℕ) where
   unfolding pick
   unsound h = sym (rw h)
 
-pub returns-then-not-well_formed : goal.returns-then-not-well_formed
-returns-then-not-well_formed c = unsound c.args.self c.args.id (sym c.well_formed-2.ensures ∙ c.if-not-well_formed.true)
+pub returns-in_err-sound : goal.returns-in_err-sound
+returns-in_err-sound c =
+    let r : c.from_residual.result ≡ Err c.in_err-sound.field-0.0 = search rules in
+    r ∙ unsound c.args.self c.args.id (c.in_err-sound.ensures {u = tt})
 
 pub place-requires : goal.place-requires
-place-requires c = (well-rising c.args.self (sym c.well_formed-2.ensures ∙ c.if-not-well_formed.false) (search rules, search rules, search rules, search rules)).rising
+place-requires c = (well-rising c.args.self (c.in_ok-sound.ensures {u = tt}) (search rules, search rules, search rules, search rules)).rising
 
 pub returns-in-Ok : goal.returns-in-Ok
 returns-in-Ok c =
-    let h = sym c.well_formed-2.ensures ∙ c.if-not-well_formed.false in
+    let h = c.in_ok-sound.ensures {u = tt} in
     let w = well-rising c.args.self h (search rules, search rules, search rules, search rules) in
     sound c.args.self c.args.id (Some c.entry.result) h (ap (λ (x : Entry). Some x) c.entry.ensures ∙ slot_found c.args.self w c.args.id c.in-Ok.i c.in-Ok.ensures)
 
 pub returns-in-Err : goal.returns-in-Err
 returns-in-Err c =
-    let h = sym c.well_formed-2.ensures ∙ c.if-not-well_formed.false in
+    let h = c.in_ok-sound.ensures {u = tt} in
     let w = well-rising c.args.self h (search rules, search rules, search rules, search rules) in
     sound c.args.self c.args.id None h (slot_none c.args.self w c.args.id _ c.in-Err.ensures)

@@ -33,8 +33,10 @@ module _ (m : FragmentationMap) where
     unfolding pick
     added-up t q k = ap (λ (n : ℕ). Ok n) (q ∙ sym is_whole) ∙ sym (rw (h, lt-ltb (disk_sum (entries_of m)) (2 ^ 64) (omega (arith, is_whole))))
 
-pub returns-then-not-well_formed : goal.returns-then-not-well_formed
-returns-then-not-well_formed c = malformed c.args.self (sym c.well_formed-2.ensures ∙ c.if-not-well_formed.true)
+pub returns-in_err-sound : goal.returns-in_err-sound
+returns-in_err-sound c =
+    let r : c.from_residual.result ≡ Err MapFull = search rules in
+    r ∙ malformed c.args.self (c.in_err-sound.ensures {u = tt})
 
 -- one number more
 module _ (m : FragmentationMap) (h : well_formed m ≡ true) (l : length m.disk ≡ 64) (t i : ℕ) (q : i < length (take m.count m.disk))
@@ -65,15 +67,15 @@ loop-bytes-init c =
 
 pub returns-in_err-total : goal.returns-in_err-total
 returns-in_err-total c =
-    let w = sym c.well_formed-2.ensures ∙ c.if-not-well_formed.false in
+    let w = c.in_ok-sound.ensures {u = tt} in
     let e = c.in_err-total.ensures {u = tt} in
-    let r : c.from_residual.result ≡ Err c.in_err-total.field-0.0 = search rules in
+    let r : c.from_residual-in_err-total.result ≡ Err c.in_err-total.field-0.0 = search rules in
     r ∙ e.value ∙ ap (λ (o : Option ℕ). ok_or o SumTooBig) e.ok_part
     ∙ over c.args.self w (search rules) c.loop-bytes.total c.loop-bytes.bytes-index c.loop-bytes-test.true c.loop-bytes.invariant.left c.checked_add.result c.checked_add.ensures e.ok_part
 
 pub loop-bytes-preserved : goal.loop-bytes-preserved
 loop-bytes-preserved c =
-    let w = sym c.well_formed-2.ensures ∙ c.if-not-well_formed.false in
+    let w = c.in_ok-sound.ensures {u = tt} in
     let e = c.in_ok-total.ensures {u = tt} in
     let k = next c.args.self w (search rules) c.loop-bytes.total c.loop-bytes.bytes-index c.loop-bytes-test.true c.loop-bytes.invariant.left c.checked_add.result c.in_ok-total.total c.checked_add.ensures e.ok_part in
     record { small = k.0; left = k.1 }
@@ -81,7 +83,7 @@ loop-bytes-preserved c =
 pub returns : goal.returns
 returns c =
     let m = c.args.self in
-    let w = sym c.well_formed-2.ensures ∙ c.if-not-well_formed.false in
+    let w = c.in_ok-sound.ensures {u = tt} in
     let l : length m.disk ≡ 64 = search rules in
     let n : m.count ≤ c.loop-bytes.bytes-index = omega (arith, c.loop-bytes-test.false, length-take-le m.count m.disk (omega (arith, l, well-few m w))) in
     added-up m w c.loop-bytes.total (omega (arith, c.loop-bytes.invariant.left, sum-out m.disk c.loop-bytes.bytes-index m.count n)) c.loop-bytes.invariant.small

@@ -11,7 +11,7 @@ returns-then-not-fits-clause-numbers c = (rowed_bad c.args.image.now c.args.self
 
 pub returns-clause-answer : goal.returns-clause-answer
 returns-clause-answer c = let b = c.begin-pass.ensures in
-    rowed c.args.image.now c.args.self c.args.rows.now _ _ (ap (λ (i : Bor (List ℕ)). i.now) b.image) b.state _ _ _ c.write-n.ensures.wrote (sym c.fits.ensures ∙ c.if-not-fits.false) _ c.front-first.ensures _ c.told.ensures
+    rowed c.args.image.now c.args.self c.args.rows.now _ _ (ap (λ (i : Bor (List ℕ)). i.now) b.image) b.state _ _ _ c.write-n.ensures.wrote (sym c.fits.ensures ∙ c.if-not-fits.false) _ c.front-first.ensures _ _ c.then_some.ensures c.told.ensures
 
 pub returns-clause-numbers : goal.returns-clause-numbers
 returns-clause-numbers c = let b = c.begin-pass.ensures in

@@ -3,4 +3,4 @@ use Rattle.merge.specs.TournamentLaws.{Filling}
 use Rattle.merge.proofs.pass.Pass.begin.Given as goal
 
 abbrev pub invariant-loop-i : goal.invariant-loop-i
-invariant-loop-i l = Filling l.image l.state.count l.state.parts l.tree l.refusal l.i
+invariant-loop-i l = Filling l.image l.fn.state.count l.fn.state.parts l.tree l.refusal l.i
