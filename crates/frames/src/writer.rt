@@ -55,6 +55,7 @@ pub struct Closed {
 }
 
 impl Writer {
+    // All zeros by hand, each by its name: an empty place is no default of `Place`.
     pub fn new(id: u64) -> Self
         ensures { result ≡ new_writer id }
     {

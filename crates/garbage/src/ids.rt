@@ -12,8 +12,8 @@ pub(crate) fn in_order(count: usize, ids: &[u64; 64]) -> bool
     ids[..count].is_sorted_by(|a, b| *a < *b)
 }
 
-// Where an id stands among ids that ascend, or where it would be put in. By `binary_search` a load of one entry takes 1,107 instructions
-// and not 829, of 64 entries 9,359 and not 8,137; a drop among 16 ids 240 and not 237.
+// Where an id stands among ids that ascend, or where it would be put in. By `binary_search`, in builds that are alike but for it, a load of one
+// entry takes 1,107 instructions and not 829, of 64 entries 9,359 and not 8,137; a drop among 16 ids 240 and not 237.
 pub(crate) fn place(ids: &[u64], id: u64) -> Result<usize, usize>
     requires { rising_from 0 ids.now ≡ true }
     ensures { MatchResult result (StandsAt id ids.now) (GoesTo id ids.now) }

@@ -10,7 +10,8 @@ use crate::ids::{in_order, place};
 use crate::map::{CountRefusal, FragmentationEntry};
 
 // Whoever lends a map takes it apart in place: of a method that returned the five references, no clause tells a caller what the map holds after
-// them. Through `&mut self` a method could lay another reference in a field's place: `Same` says that none does.
+// them. Through `&mut self` a method could lay another reference in a field's place: `Same` says that none does. No ghost field holds `Whole` or
+// `Ready`: a map is lent before its order is known, and each method asks for as much as it needs.
 #[derive(Drop)]
 pub(crate) struct Lent<'a> {
     pub(crate) count: &'a mut usize,

@@ -78,7 +78,7 @@ fn get_entry(s: &[u8], at: usize) -> FragmentationEntry
     }
 }
 
-// The first `n` entries, from 4 on, of columns that C lends apart: no map has them, of which `entry` would tell one.
+// The first `n` entries, from 4 on, of columns lent apart: C's `pd_store` has no map, of which `entry` would tell one.
 fn put_entries(
     n: usize,
     ids: &[u64; 64],
@@ -126,7 +126,7 @@ pub fn store_columns<'a>(
     Ok(need)
 }
 
-// Of the bytes from `at` on, `present` are there.
+// Of the bytes from `at` on, `present` are there. As frames' own: one for both would be a public call of numbers, with a promise of its own, and a `From` here.
 fn enough(at: usize, needed: usize, present: usize) -> Result<(), LoadRefusal>
     ensures { MatchResult result (λ _. needed ≤ present)
         (λ why. (present < needed) × (why ≡ load.CutShort (record { at = at; needed = needed; present = present }))) }

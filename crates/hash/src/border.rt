@@ -55,7 +55,7 @@ fn end(s: &[u8]) -> u64
     (few(&s[..n]) << (56 - 8 * (n as u32))) << 8
 }
 
-// Clauses spell the text out: by its name, `⟦<Joined as Text>⟧.bytes self.now`, they are no shorter.
+// Clauses spell the text out: `Joined.bytes` is no name in a clause, and `⟦<Joined as Text>⟧.bytes` does not say that it is key and value.
 impl<'a> Joined<'a> {
     pub(crate) fn new(key: &'a [u8], value: &'a [u8]) -> Self
         ensures { (result.key.now ≡ key.now) × (result.value.now ≡ value.now) }

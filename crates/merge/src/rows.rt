@@ -16,7 +16,7 @@ pub struct Rowed {
     pub answer: Result<Option<usize>, RowsRefusal>,
 }
 
-// Nine stores: an array copied over takes 30 instructions more an entry (977 against 947).
+// Nine stores: an array copied over takes 30 instructions more an entry (977 and not 947, in builds that are alike but for it).
 fn put_row(rows: &mut [u64], at: usize, x: MergeEntry)
     requires { at + 9 ≤ length rows.old }
     ensures { rows.new ≡ sets rows.old at (row_of x) }
