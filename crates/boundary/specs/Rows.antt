@@ -3,12 +3,12 @@ use Rattle.std.specs.Prelude.{ℕ, ◌-◌, ◌%◌, ◌^◌, List, [], ◌∷�
 use Rattle.numbers.specs.declared.handle.ValueHandle.{ValueHandle}
 use Rattle.frames.specs.Refusals.{append_number, scan_number}
 use Rattle.frames.specs.declared.place.Place.{Place}
-use Rattle.frames.specs.declared.writer.Writer.{Writer}
+use Rattle.frames.specs.declared.state.Writer.{Writer}
 use Rattle.frames.specs.declared.writer.Appended.{Appended}
 use Rattle.frames.specs.declared.refused.Refused.{Refused}
 use Rattle.frames.specs.declared.refused.AppendRefusal.{AppendRefusal}
 use Rattle.frames.specs.Scan.{Scanned}
-use Rattle.frames.specs.declared.scanner.Step.TheVariants as scanned
+use Rattle.frames.specs.declared.steps.Step.TheVariants as scanned
 
 -- a count; refused, the refusal's number below zero, in two's complement
 abbrev pub counted : {E : Type 0} → (E → ℕ) → Result ℕ E → ℕ

@@ -13,7 +13,7 @@ use Rattle.frames.specs.Write.{judged, grown, pointer_of, report_of, accepted_as
 use Rattle.frames.specs.WriteLaws.{Taken, taken}
 use Rattle.numbers.specs.declared.handle.BlobIndirection.{BlobIndirection}
 use Rattle.frames.specs.declared.shape.Shape.{Shape}
-use Rattle.frames.specs.declared.writer.Writer.{Writer}
+use Rattle.frames.specs.declared.state.Writer.{Writer}
 use Rattle.frames.specs.declared.writer.Report.{Report}
 use Rattle.frames.specs.declared.writer.Appended.{Appended}
 use Rattle.frames.specs.declared.refused.Refused.{Refused}

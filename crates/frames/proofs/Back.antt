@@ -22,7 +22,7 @@ use Rattle.frames.proofs.ScanLaws.{at-blob, frame-whole, checked-entry}
 use Rattle.frames.specs.Point.{told_by, found_of, read_of, part_of, taken_sum, within_of}
 use Rattle.frames.proofs.PointLaws.{tested-found, within-whole, found-whole}
 use Rattle.frames.specs.declared.header.Header.{Header}
-use Rattle.frames.specs.declared.scanner.Step.TheVariants as step
+use Rattle.frames.specs.declared.steps.Step.TheVariants as step
 
 pub same_self : (a : Hash128) → same_sum a a ≡ true
 same_self a = simp (eq-eqb a.low a.low refl, eq-eqb a.high a.high refl)

@@ -3,7 +3,7 @@ use Rattle.std.specs.Prelude.{◌+◌, ◌<◌, ◌≤◌, ◌≡◌, Option, So
 use borrow.Author.Tests.{lt-ltb, le-ltb}
 use Rattle.frames.specs.Write.{most, over_of, counted}
 use Rattle.frames.specs.declared.shape.Shape.{Shape}
-use Rattle.frames.specs.declared.writer.Writer.{Writer}
+use Rattle.frames.specs.declared.state.Writer.{Writer}
 
 module _ (w : Writer) (f : Shape) where
   abbrev totals : Option Writer

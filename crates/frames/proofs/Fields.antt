@@ -10,7 +10,7 @@ use Rattle.frames.specs.Shape.{size_of}
 use Rattle.frames.specs.Write.{key_place, first_of, grown}
 use Rattle.frames.specs.declared.place.Place.{Place}
 use Rattle.frames.specs.declared.shape.Shape.{Shape}
-use Rattle.frames.specs.declared.writer.Writer.{Writer}
+use Rattle.frames.specs.declared.state.Writer.{Writer}
 
 -- a header, of the numbers read at its places
 pub header_law : (p : List ℕ) (low high seqno key stated size : ℕ) → low ≡ num 8 (drop 4 p) → high ≡ num 8 (drop 12 p) → seqno ≡ num 8 (drop 20 p) → key ≡ num 2 (drop 28 p) → stated ≡ num 4 (drop 30 p) → size ≡ num 4 (drop 34 p)

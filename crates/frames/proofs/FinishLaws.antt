@@ -8,7 +8,7 @@ use Rattle.std.proofs.lemmas.List.Edits.{sets}
 use Rattle.numbers.specs.Pick.{pick}
 use Rattle.frames.specs.Write.{most, new_writer, targeted, closed_as, report_of, handed_back, end_bytes}
 use Rattle.frames.specs.Write.{finish_answer, finish_bytes, next_of}
-use Rattle.frames.specs.declared.writer.Writer.{Writer}
+use Rattle.frames.specs.declared.state.Writer.{Writer}
 use Rattle.frames.specs.declared.writer.Report.{Report}
 use Rattle.frames.specs.declared.refused.FinishRefusal.TheVariants as finish
 use Rattle.frames.specs.declared.refused.NextRefusal.TheVariants as next

@@ -7,7 +7,7 @@ use Rattle.frames.specs.Shape.{size_of}
 use Rattle.frames.specs.Write.{over_of, judged, first_of, grown}
 use Rattle.frames.specs.declared.place.Place.{Place}
 use Rattle.frames.specs.declared.shape.Shape.{Shape}
-use Rattle.frames.specs.declared.writer.Writer.{Writer}
+use Rattle.frames.specs.declared.state.Writer.{Writer}
 use Rattle.frames.specs.declared.refused.AppendRefusal.{AppendRefusal}
 use Rattle.frames.specs.declared.refused.AppendRefusal.TheVariants.{BadKey, ValueTooLong, NoRoom, SumTooBig}
 

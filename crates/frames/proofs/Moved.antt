@@ -14,11 +14,11 @@ use Rattle.frames.proofs.ScanLaws.{at_ended, at_cut, checked-end, checked-refuse
 use Rattle.frames.specs.Scans.{after, is_over, over_within}
 use Rattle.frames.specs.Theorems.{Progress, Over}
 use Rattle.frames.specs.declared.header.Header.{Header}
-use Rattle.frames.specs.declared.scanner.Scanner.{Scanner}
-use Rattle.frames.specs.declared.scanner.FrameRefusal.TheVariants as frame
-use Rattle.frames.specs.declared.scanner.Step.TheVariants as step
-use Rattle.frames.specs.declared.scanner.ScanEntry.{ScanEntry}
-use Rattle.frames.specs.declared.scanner.ScanRefusal.{ScanRefusal}
+use Rattle.frames.specs.declared.steps.Scanner.{Scanner}
+use Rattle.frames.specs.declared.steps.FrameRefusal.TheVariants as frame
+use Rattle.frames.specs.declared.steps.Step.TheVariants as step
+use Rattle.frames.specs.declared.steps.ScanEntry.{ScanEntry}
+use Rattle.frames.specs.declared.steps.ScanRefusal.{ScanRefusal}
 
 abbrev Moves : Scanner → Framed → Type 0
 Moves w (step.Entry found next) = w.at + 4 ≤ next.at

@@ -10,7 +10,7 @@ use Rattle.frames.specs.Layout.{Item, frame_bytes}
 use Rattle.frames.specs.Shape.{item_of, plain_of, blob_form, shape_of}
 use Rattle.frames.specs.Write.{judged, answer_of, bytes_of}
 use Rattle.frames.specs.Write.{answered, append_answer, append_bytes}
-use Rattle.frames.specs.declared.writer.Writer.{Writer}
+use Rattle.frames.specs.declared.state.Writer.{Writer}
 use Rattle.frames.specs.declared.writer.Appended.{Appended}
 use Rattle.frames.specs.declared.refused.Refused.{Refused}
 use Rattle.frames.specs.declared.refused.AppendRefusal.{AppendRefusal}

@@ -19,8 +19,8 @@ use Rattle.frames.specs.Point.{needing, tested, taken_sum, within_of, found_of}
 use Rattle.frames.specs.declared.place.Place.{Place}
 use Rattle.frames.specs.declared.header.Header.{Header}
 use Rattle.frames.specs.declared.reader.Found.{Found}
-use Rattle.frames.specs.declared.scanner.ScanRefusal.{ScanRefusal}
-use Rattle.frames.specs.declared.scanner.ScanRefusal.TheVariants as scan
+use Rattle.frames.specs.declared.steps.ScanRefusal.{ScanRefusal}
+use Rattle.frames.specs.declared.steps.ScanRefusal.TheVariants as scan
 
 -- the bytes that a read needs are there, or not
 module _ (at needed present : ℕ) (more : Result Found ScanRefusal) where

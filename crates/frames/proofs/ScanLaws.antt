@@ -17,12 +17,12 @@ use Rattle.frames.specs.Refusals.{widened}
 use Rattle.frames.specs.Scan.{Framed, framed, going, cut_at, reading, entry_of, frame_of, frame_at, part_at, sum_at, checked_of}
 use Rattle.frames.specs.declared.place.Place.{Place}
 use Rattle.frames.specs.declared.header.Header.{Header}
-use Rattle.frames.specs.declared.scanner.Scanner.{Scanner}
-use Rattle.frames.specs.declared.scanner.ScanEntry.{ScanEntry}
-use Rattle.frames.specs.declared.scanner.FrameRefusal.{FrameRefusal}
-use Rattle.frames.specs.declared.scanner.FrameRefusal.TheVariants as frame
-use Rattle.frames.specs.declared.scanner.ScanRefusal.TheVariants as scan
-use Rattle.frames.specs.declared.scanner.Step.TheVariants as step
+use Rattle.frames.specs.declared.steps.Scanner.{Scanner}
+use Rattle.frames.specs.declared.steps.ScanEntry.{ScanEntry}
+use Rattle.frames.specs.declared.steps.FrameRefusal.{FrameRefusal}
+use Rattle.frames.specs.declared.steps.FrameRefusal.TheVariants as frame
+use Rattle.frames.specs.declared.steps.ScanRefusal.TheVariants as scan
+use Rattle.frames.specs.declared.steps.Step.TheVariants as step
 
 -- the bytes that a read needs are there, or not
 module _ (s : List ℕ) (at needed : ℕ) (w : Scanner) (more : Framed) where

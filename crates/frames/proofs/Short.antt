@@ -20,10 +20,10 @@ use Rattle.frames.specs.Scans.{Walk, go_on, walk_from, ahead, ends_at, begin_at,
 use Rattle.frames.specs.Theorems.{Cut}
 use Rattle.frames.specs.declared.place.Place.{Place}
 use Rattle.frames.specs.declared.header.Header.{Header}
-use Rattle.frames.specs.declared.scanner.Scanner.{Scanner}
-use Rattle.frames.specs.declared.scanner.ScanEntry.{ScanEntry}
-use Rattle.frames.specs.declared.scanner.ScanRefusal.TheVariants as scan
-use Rattle.frames.specs.declared.scanner.Step.TheVariants as step
+use Rattle.frames.specs.declared.steps.Scanner.{Scanner}
+use Rattle.frames.specs.declared.steps.ScanEntry.{ScanEntry}
+use Rattle.frames.specs.declared.steps.ScanRefusal.TheVariants as scan
+use Rattle.frames.specs.declared.steps.Step.TheVariants as step
 use Rattle.frames.specs.StepLaws.{Whole, whole}
 use Rattle.frames.proofs.Moved.{end-at}
 use Rattle.frames.proofs.Walking.{walk_on_lem, walk_entry, walk_refused}

@@ -9,8 +9,8 @@ use Rattle.hash.specs.XXH3.{xxh3_128}
 use Rattle.frames.specs.Point.{taken_sum}
 use Rattle.frames.proofs.PointLaws.{taken_once}
 use Rattle.frames.specs.Scan.{Framed, Scanned, part_at, sum_at, frame_at, checked_of, step_of}
-use Rattle.frames.specs.declared.scanner.Scanner.{Scanner}
-use Rattle.frames.specs.declared.scanner.ScanEntry.{ScanEntry}
+use Rattle.frames.specs.declared.steps.Scanner.{Scanner}
+use Rattle.frames.specs.declared.steps.ScanEntry.{ScanEntry}
 
 -- of what was taken, in one part or in two
 module _ (t : List ℕ) (hk k : ℕ) (r : Hash128) where

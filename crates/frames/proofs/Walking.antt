@@ -8,9 +8,9 @@ use Rattle.frames.specs.Scan.{Scanned, step_of}
 use Rattle.frames.specs.Scans.{Walk, go_on, walk_in, walk_from, ahead}
 use Rattle.frames.specs.StepLaws.{whole}
 use Rattle.frames.specs.Theorems.{WalkOn}
-use Rattle.frames.specs.declared.scanner.Scanner.{Scanner}
-use Rattle.frames.specs.declared.scanner.ScanEntry.{ScanEntry}
-use Rattle.frames.specs.declared.scanner.Step.TheVariants as step
+use Rattle.frames.specs.declared.steps.Scanner.{Scanner}
+use Rattle.frames.specs.declared.steps.ScanEntry.{ScanEntry}
+use Rattle.frames.specs.declared.steps.Step.TheVariants as step
 
 module _ (s : List ℕ) where
   -- two ways to go on that agree after an entry

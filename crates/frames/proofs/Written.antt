@@ -20,10 +20,10 @@ use Rattle.frames.specs.GrownLaws.{blob-sized, grown-items, grown-disk, grown-st
 use Rattle.frames.specs.RunLaws.{ran, ran_offset, ran-items}
 use Rattle.frames.specs.Scans.{walk_from, walk_of, ahead, ends_at}
 use Rattle.frames.specs.Theorems.{entry_for, entries_for, Lies, Found, written, report_for, Bytes, ScanBack, ReadBack, Reports}
-use Rattle.frames.specs.declared.writer.Writer.{Writer}
+use Rattle.frames.specs.declared.state.Writer.{Writer}
 use Rattle.frames.specs.declared.writer.Report.{Report}
-use Rattle.frames.specs.declared.scanner.ScanEntry.{ScanEntry}
-use Rattle.frames.specs.declared.scanner.Step.TheVariants as scanned
+use Rattle.frames.specs.declared.steps.ScanEntry.{ScanEntry}
+use Rattle.frames.specs.declared.steps.Step.TheVariants as scanned
 use Rattle.frames.proofs.Back.{Small, after, step_back, key_back, value-back, told_back}
 use Rattle.frames.proofs.Walking.{walk_entry, walk_end}
 

@@ -13,7 +13,7 @@ use Rattle.frames.specs.Write.{targeted, report_of, judged, grown, pointer_of, a
 use Rattle.frames.specs.Write.{answered, append_bytes, finish_answer, closed_bytes, finish_bytes}
 use Rattle.frames.specs.WriteLaws.{Taken, taken, judge_finished, some_number}
 use Rattle.frames.specs.Runs.{Call, append, append_raw, use_target, finish, TypedCall, Frame, Run, append_run, finish_run, appending, called, all_bytes}
-use Rattle.frames.specs.declared.writer.Writer.{Writer}
+use Rattle.frames.specs.declared.state.Writer.{Writer}
 use Rattle.frames.specs.declared.writer.Report.{Report}
 use Rattle.frames.specs.declared.writer.Closed.{Closed}
 use Rattle.frames.specs.declared.refused.Refused.{Refused}

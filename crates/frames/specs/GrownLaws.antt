@@ -14,7 +14,7 @@ use Rattle.frames.specs.Write.{key_place, first_of, grown}
 use Rattle.frames.specs.Runs.{Frame, all_bytes}
 use Rattle.frames.specs.Ran.{grown_by, settled, stated_sum, disk_sum, Laid, key_of, first_key, last_key}
 use Rattle.frames.specs.declared.place.Place.{Place}
-use Rattle.frames.specs.declared.writer.Writer.{Writer}
+use Rattle.frames.specs.declared.state.Writer.{Writer}
 
 -- a form tells its frames' lengths truly
 abbrev pub Sized : Form → Type 0

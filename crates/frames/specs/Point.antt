@@ -10,8 +10,8 @@ use Rattle.frames.specs.Layout.{blob, header_length, header_of, starts, same_sum
 use Rattle.frames.specs.Cut.{cut_of}
 use Rattle.frames.specs.Refusals.{scan_number, refuse_read}
 use Rattle.frames.specs.declared.place.Place.{Place}
-use Rattle.frames.specs.declared.scanner.ScanRefusal.{ScanRefusal}
-use Rattle.frames.specs.declared.scanner.ScanRefusal.TheVariants as scan
+use Rattle.frames.specs.declared.steps.ScanRefusal.{ScanRefusal}
+use Rattle.frames.specs.declared.steps.ScanRefusal.TheVariants as scan
 use Rattle.frames.specs.declared.reader.Found.{Found}
 use Rattle.frames.specs.declared.reader.Told.{Told}
 

@@ -6,7 +6,7 @@ use Rattle.frames.specs.Shape.{Form, shape_of, size_of}
 use Rattle.frames.specs.Write.{most, targeted, report_of, end_bytes, grown}
 use Rattle.frames.specs.Runs.{Frame, Run, all_bytes}
 use Rattle.frames.specs.declared.place.Place.{Place}
-use Rattle.frames.specs.declared.writer.Writer.{Writer}
+use Rattle.frames.specs.declared.state.Writer.{Writer}
 
 -- the writer that took these frames, one after another
 unfoldable pub grown_by : Form → Writer → List Frame → Writer

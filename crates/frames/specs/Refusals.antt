@@ -2,7 +2,7 @@
 use Rattle.std.specs.Prelude.{ℕ, ◌≡◌, refl, List, [], ◌∷◌, Result, Err}
 use Rattle.numbers.specs.Refusals.{values_of_cut}
 use Rattle.numbers.specs.declared.cut.CutShort.{CutShort}
-use Rattle.frames.specs.declared.writer.Writer.{Writer}
+use Rattle.frames.specs.declared.state.Writer.{Writer}
 use Rattle.frames.specs.declared.writer.Closed.{Closed}
 use Rattle.frames.specs.declared.refused.Refused.{Refused}
 use Rattle.frames.specs.declared.refused.AppendRefusal.{AppendRefusal}
@@ -11,15 +11,15 @@ use Rattle.frames.specs.declared.refused.FinishRefusal.{FinishRefusal}
 use Rattle.frames.specs.declared.refused.FinishRefusal.TheVariants as finish
 use Rattle.frames.specs.declared.refused.NextRefusal.{NextRefusal}
 use Rattle.frames.specs.declared.refused.NextRefusal.TheVariants as next
-use Rattle.frames.specs.declared.scanner.Scanner.{Scanner}
-use Rattle.frames.specs.declared.scanner.ScanEntry.{ScanEntry}
-use Rattle.frames.specs.declared.scanner.Untested.{Untested}
-use Rattle.frames.specs.declared.scanner.FrameRefusal.{FrameRefusal}
-use Rattle.frames.specs.declared.scanner.FrameRefusal.TheVariants as frame
-use Rattle.frames.specs.declared.scanner.ScanRefusal.{ScanRefusal}
-use Rattle.frames.specs.declared.scanner.ScanRefusal.TheVariants as scan
-use Rattle.frames.specs.declared.scanner.Step.{Step}
-use Rattle.frames.specs.declared.scanner.Step.TheVariants as step
+use Rattle.frames.specs.declared.steps.Scanner.{Scanner}
+use Rattle.frames.specs.declared.steps.ScanEntry.{ScanEntry}
+use Rattle.frames.specs.declared.steps.Untested.{Untested}
+use Rattle.frames.specs.declared.steps.FrameRefusal.{FrameRefusal}
+use Rattle.frames.specs.declared.steps.FrameRefusal.TheVariants as frame
+use Rattle.frames.specs.declared.steps.ScanRefusal.{ScanRefusal}
+use Rattle.frames.specs.declared.steps.ScanRefusal.TheVariants as scan
+use Rattle.frames.specs.declared.steps.Step.{Step}
+use Rattle.frames.specs.declared.steps.Step.TheVariants as step
 use Rattle.frames.specs.declared.reader.Found.{Found}
 
 -- finished, bad key, value too long, no room, sum too big

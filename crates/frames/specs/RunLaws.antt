@@ -14,7 +14,7 @@ use Rattle.frames.specs.Runs.{Call, Typed, Frame, Run, called, and_then, run_by,
 use Rattle.frames.specs.Ran.{grown_by, settled, stated_sum, disk_sum, Laid, Counts, Ran, Still}
 use Rattle.frames.specs.GrownLaws.{Sized, all_append, grown-append, grown-settled, grown-id, grown-items, grown-disk, grown-stated, grown-offset}
 use Rattle.frames.specs.CallLaws.{unchanged, ran_call, still_call}
-use Rattle.frames.specs.declared.writer.Writer.{Writer}
+use Rattle.frames.specs.declared.state.Writer.{Writer}
 
 still_then : (w : Writer) (s : List ℕ) (a b : Run) → Still w s a → Still a.writer a.buffer b → Still w s (and_then a b)
 still_then w s a b p q = record {

@@ -4,7 +4,7 @@ use Rattle.numbers.specs.declared.handle.BlobIndirection.{BlobIndirection}
 use Rattle.frames.specs.Layout.{Item}
 use Rattle.frames.specs.Shape.{item_of, plain_of, Form, blob_form}
 use Rattle.frames.specs.Write.{targeted, append_answer, append_bytes, finish_answer, finish_bytes}
-use Rattle.frames.specs.declared.writer.Writer.{Writer}
+use Rattle.frames.specs.declared.state.Writer.{Writer}
 use Rattle.frames.specs.declared.writer.Report.{Report}
 use Rattle.frames.specs.declared.writer.Appended.{Appended}
 use Rattle.frames.specs.declared.writer.Closed.{Closed}

@@ -10,15 +10,15 @@ use Rattle.frames.specs.Cut.{cut_of}
 use Rattle.frames.specs.Refusals.{widened, refuse_frame, refuse_scan}
 use Rattle.frames.specs.declared.place.Place.{Place}
 use Rattle.frames.specs.declared.header.Header.{Header}
-use Rattle.frames.specs.declared.scanner.Scanner.{Scanner}
-use Rattle.frames.specs.declared.scanner.ScanEntry.{ScanEntry}
-use Rattle.frames.specs.declared.scanner.Untested.{Untested}
-use Rattle.frames.specs.declared.scanner.FrameRefusal.{FrameRefusal}
-use Rattle.frames.specs.declared.scanner.FrameRefusal.TheVariants as frame
-use Rattle.frames.specs.declared.scanner.ScanRefusal.{ScanRefusal}
-use Rattle.frames.specs.declared.scanner.ScanRefusal.TheVariants as scan
-use Rattle.frames.specs.declared.scanner.Step.{Step}
-use Rattle.frames.specs.declared.scanner.Step.TheVariants as step
+use Rattle.frames.specs.declared.steps.Scanner.{Scanner}
+use Rattle.frames.specs.declared.steps.ScanEntry.{ScanEntry}
+use Rattle.frames.specs.declared.steps.Untested.{Untested}
+use Rattle.frames.specs.declared.steps.FrameRefusal.{FrameRefusal}
+use Rattle.frames.specs.declared.steps.FrameRefusal.TheVariants as frame
+use Rattle.frames.specs.declared.steps.ScanRefusal.{ScanRefusal}
+use Rattle.frames.specs.declared.steps.ScanRefusal.TheVariants as scan
+use Rattle.frames.specs.declared.steps.Step.{Step}
+use Rattle.frames.specs.declared.steps.Step.TheVariants as step
 
 -- what a step finds that does not look at the sum
 abbrev pub Framed : Type 0

@@ -1,10 +1,10 @@
 -- A scan: steps made one after another over one file.
 use Rattle.std.specs.Prelude.{ℕ, zero, suc, ◌+◌, ◌-◌, ◌/◌, List, [], ◌∷◌, ◌++◌, Bool, true, false, leb, length, if◌then◌else◌}
 use Rattle.frames.specs.Scan.{Scanned, going, step_of}
-use Rattle.frames.specs.declared.scanner.Scanner.{Scanner}
-use Rattle.frames.specs.declared.scanner.ScanEntry.{ScanEntry}
-use Rattle.frames.specs.declared.scanner.ScanRefusal.TheVariants as scan
-use Rattle.frames.specs.declared.scanner.Step.TheVariants as step
+use Rattle.frames.specs.declared.steps.Scanner.{Scanner}
+use Rattle.frames.specs.declared.steps.ScanEntry.{ScanEntry}
+use Rattle.frames.specs.declared.steps.ScanRefusal.TheVariants as scan
+use Rattle.frames.specs.declared.steps.Step.TheVariants as step
 
 -- what a scan gives: entries in order, and the answer that ended it, which is none
 pub record Walk : Type 0 where

@@ -13,13 +13,13 @@ use Rattle.numbers.specs.LeLaws.{le-num, octets_drop}
 use Rattle.frames.specs.Layout.{blob, meta, header_length, header_bytes, header_of, header_for, frame_bytes, starts, same_sum}
 use Rattle.frames.specs.Scan.{Framed, framed, going, reading, entry_of, frame_of, frame_at, part_at, sum_at, item_at, checked_of, step_of}
 use Rattle.frames.specs.declared.header.Header.{Header}
-use Rattle.frames.specs.declared.scanner.Scanner.{Scanner}
-use Rattle.frames.specs.declared.scanner.ScanEntry.{ScanEntry}
-use Rattle.frames.specs.declared.scanner.Untested.{Untested}
-use Rattle.frames.specs.declared.scanner.FrameRefusal.{FrameRefusal}
-use Rattle.frames.specs.declared.scanner.FrameRefusal.TheVariants as frame
-use Rattle.frames.specs.declared.scanner.ScanRefusal.{ScanRefusal}
-use Rattle.frames.specs.declared.scanner.Step.TheVariants as step
+use Rattle.frames.specs.declared.steps.Scanner.{Scanner}
+use Rattle.frames.specs.declared.steps.ScanEntry.{ScanEntry}
+use Rattle.frames.specs.declared.steps.Untested.{Untested}
+use Rattle.frames.specs.declared.steps.FrameRefusal.{FrameRefusal}
+use Rattle.frames.specs.declared.steps.FrameRefusal.TheVariants as frame
+use Rattle.frames.specs.declared.steps.ScanRefusal.{ScanRefusal}
+use Rattle.frames.specs.declared.steps.Step.TheVariants as step
 
 -- a step from w that gave the entry e and left n, of a frame whose header is h
 pub record Whole (s : List ℕ) (w : Scanner) (h : Header) (e : ScanEntry) (n : Scanner) : Type 0 where

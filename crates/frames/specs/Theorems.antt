@@ -12,12 +12,12 @@ use Rattle.frames.specs.Point.{read_of, part_of}
 use Rattle.frames.specs.Runs.{Call, Typed, Frame, Each, Run, run, all_bytes}
 use Rattle.frames.specs.Ran.{stated_sum, disk_sum, first_key, last_key}
 use Rattle.frames.specs.Scans.{walk_from, walk_of, go_on, ahead, ends_at, after, is_over, over_within, whole_before}
-use Rattle.frames.specs.declared.writer.Writer.{Writer}
+use Rattle.frames.specs.declared.state.Writer.{Writer}
 use Rattle.frames.specs.declared.writer.Report.{Report}
-use Rattle.frames.specs.declared.scanner.Scanner.{Scanner}
-use Rattle.frames.specs.declared.scanner.ScanEntry.{ScanEntry}
-use Rattle.frames.specs.declared.scanner.ScanRefusal.TheVariants as scan
-use Rattle.frames.specs.declared.scanner.Step.TheVariants as step
+use Rattle.frames.specs.declared.steps.Scanner.{Scanner}
+use Rattle.frames.specs.declared.steps.ScanEntry.{ScanEntry}
+use Rattle.frames.specs.declared.steps.ScanRefusal.TheVariants as scan
+use Rattle.frames.specs.declared.steps.Step.TheVariants as step
 
 -- of any list of calls, from any unfinished writer whose offset is 0, in any buffer
 abbrev pub OfRuns : (Writer → Run → List ℕ → Type 0) → Type 0

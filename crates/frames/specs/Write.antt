@@ -7,7 +7,7 @@ use Rattle.frames.specs.Shape.{Form, shape_of, size_of}
 use Rattle.frames.specs.Refusals.{refuse_append, refuse_finish, refuse_next}
 use Rattle.frames.specs.declared.place.Place.{Place}
 use Rattle.frames.specs.declared.shape.Shape.{Shape}
-use Rattle.frames.specs.declared.writer.Writer.{Writer}
+use Rattle.frames.specs.declared.state.Writer.{Writer}
 use Rattle.frames.specs.declared.writer.Report.{Report}
 use Rattle.frames.specs.declared.writer.Appended.{Appended}
 use Rattle.frames.specs.declared.writer.Closed.{Closed}

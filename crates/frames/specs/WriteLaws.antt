@@ -9,7 +9,7 @@ use Rattle.numbers.specs.Pick.{pick}
 use Rattle.frames.specs.Shape.{size_of}
 use Rattle.frames.specs.Write.{most, over_of, judged, grown}
 use Rattle.frames.specs.declared.shape.Shape.{Shape}
-use Rattle.frames.specs.declared.writer.Writer.{Writer}
+use Rattle.frames.specs.declared.state.Writer.{Writer}
 use Rattle.frames.specs.declared.refused.AppendRefusal.{AppendRefusal}
 use Rattle.frames.specs.declared.refused.AppendRefusal.TheVariants.{Finished}
 

@@ -5,7 +5,7 @@ ghost use Rattle.frames.specs.Write.{over_of, counted, judged, pointer_of};
 use super::place::Place;
 use super::refused::AppendRefusal;
 use super::shape::Shape;
-use super::writer::Writer;
+use super::state::Writer;
 use numbers::bytes::room;
 use numbers::handle::{BlobIndirection, ValueHandle};
 

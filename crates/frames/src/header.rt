@@ -5,7 +5,7 @@ ghost use Rattle.numbers.specs.Le.{le};
 ghost use Rattle.frames.specs.Layout.{header_length, header_bytes, header_of, starts};
 
 use hash::Hash128;
-use numbers::bytes::{get, put};
+use numbers::{get, put};
 
 // "BLOB" and "META", least byte first.
 pub(crate) const BLOB: u32 = 0x424f_4c42;

@@ -12,6 +12,8 @@ mod refused;
 mod said;
 pub mod scanner;
 pub mod shape;
+mod state;
+mod steps;
 mod tested;
 mod widened;
 pub mod writer;

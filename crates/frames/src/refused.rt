@@ -2,7 +2,7 @@
 ghost use Rattle.std.specs.Prelude.{◌≡◌};
 ghost use Rattle.frames.specs.Refusals.{append_number, finish_number, next_number};
 
-use super::writer::Writer;
+use super::state::Writer;
 
 #[derive(Clone, Copy, Debug, PartialEq, Eq)]
 pub struct Refused<E> {

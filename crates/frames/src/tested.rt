@@ -4,7 +4,7 @@ ghost use Rattle.hash.specs.XXH3.{xxh3_128};
 ghost use Rattle.frames.specs.Scan.{part_at, sum_at, checked_of};
 
 use super::place::Place;
-use super::scanner::{Framed, ScanEntry, ScanRefusal, Scanned, Step};
+use super::steps::{Framed, ScanEntry, ScanRefusal, Scanned, Step};
 use hash::{Hash128, xxh3_128, xxh3_128_joined};
 use numbers::bytes::{lesser, part, room};
 

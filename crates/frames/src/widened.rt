@@ -2,7 +2,7 @@
 ghost use Rattle.std.specs.Prelude.{◌≡◌};
 ghost use Rattle.frames.specs.Refusals.{widened, cut_refusal};
 
-use super::scanner::{FrameRefusal, ScanRefusal};
+use super::steps::{FrameRefusal, ScanRefusal};
 use numbers::cut::CutShort;
 
 impl From<CutShort> for ScanRefusal {

@@ -11,23 +11,10 @@ use super::header::META;
 use super::place::Place;
 pub use super::refused::{AppendRefusal, FinishRefusal, NextRefusal, Refused};
 use super::shape::Shape;
-use numbers::bytes::{lesser, put, room};
+pub use super::state::Writer;
+use numbers::bytes::{lesser, room};
 use numbers::handle::BlobIndirection;
-
-// A file being written: where the next frame goes, the totals so far, and where the first and the last key lie.
-#[derive(Clone, Copy, Debug, PartialEq, Eq)]
-pub struct Writer {
-    pub id: u64,
-    pub offset: usize,
-    pub items: u64,
-    pub disk: u64,
-    pub stated: u64,
-    pub target: u64,
-    // Whether META is written. A caller may hand in either, with any counts.
-    pub finished: bool,
-    pub first: Place,
-    pub last: Place,
-}
+use numbers::put;
 
 // What finishing a file reports: five of the writer's numbers, handed out at the end. As a field of the writer it would be there before the end, too,
 // and `counted` and `grown`, which set all five at each append, would build a struct inside a struct.

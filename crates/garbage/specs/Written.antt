@@ -1,6 +1,6 @@
 -- Files as the writer's definition gives them (demand 3, second layer).
 use Rattle.std.specs.Prelude.{ℕ, ◌<◌, ◌^◌, ◌≡◌, List, [], ◌∷◌, map, Bool, true, false, length}
-use Rattle.frames.specs.declared.writer.Writer.{Writer}
+use Rattle.frames.specs.declared.state.Writer.{Writer}
 use Rattle.frames.specs.Write.{report_of}
 use Rattle.frames.specs.Runs.{Call, Typed, Frame as Accepted, Run, run}
 use Rattle.garbage.specs.Files.{Frame, File}

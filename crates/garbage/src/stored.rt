@@ -10,8 +10,8 @@ ghost use Rattle.garbage.specs.declared.stored.LoadRefusal.TheVariants as load;
 use crate::ids::in_order;
 use crate::lent::Lent;
 use crate::map::{FragmentationEntry, FragmentationMap};
-use numbers::bytes::{get, put};
 use numbers::cut::CutShort;
+use numbers::{get, put};
 
 #[derive(Clone, Copy)]
 pub enum StoreRefusal {

@@ -5,7 +5,7 @@ ghost use Rattle.hash.specs.Shape.{end_of, joint_of};
 
 use super::text::{Text, Two, chunk};
 use super::words::{read32, read64};
-use numbers::bytes::get;
+use numbers::get;
 
 // Key and value; the key's last eight bytes at the top of a word, and the value's first eight.
 #[derive(Clone, Copy)]

@@ -6,9 +6,9 @@ use mathlib.Core.Bool.{Bool, true, false}
 use native.Mathlib.Omega.{arith}
 use lib.ListN.{get_or, set}
 use Rattle.numbers.specs.Pick.{pick}
-use Rattle.frames.specs.declared.scanner.Scanner.{Scanner}
-use Rattle.frames.specs.declared.scanner.ScanEntry.{ScanEntry}
-use Rattle.frames.specs.declared.scanner.Step.TheVariants as scanned
+use Rattle.frames.specs.declared.steps.Scanner.{Scanner}
+use Rattle.frames.specs.declared.steps.ScanEntry.{ScanEntry}
+use Rattle.frames.specs.declared.steps.Step.TheVariants as scanned
 use Rattle.merge.specs.declared.parts.Part.{Part}
 use Rattle.merge.specs.declared.heads.MergeEntry.{MergeEntry}
 use Rattle.merge.specs.Parts.{moved, no_part}

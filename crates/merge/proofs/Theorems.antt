@@ -16,7 +16,7 @@ use Rattle.std.specs.declared.cmp.Ordering.{Ordering}
 use Rattle.std.specs.declared.cmp.Ordering.TheVariants.{Less, Equal, Greater}
 use Rattle.numbers.specs.Pick.{pick}
 use Rattle.frames.specs.Scan.{Scanned}
-use Rattle.frames.specs.declared.scanner.Step.TheVariants as scanned
+use Rattle.frames.specs.declared.steps.Step.TheVariants as scanned
 use Rattle.merge.specs.declared.drain.Outcome.TheVariants as outcome
 use Rattle.merge.specs.declared.refusals.MergeRefusal.TheVariants as merge
 use Rattle.merge.specs.declared.refusals.DrainRefusal.TheVariants as refusal

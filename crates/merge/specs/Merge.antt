@@ -5,9 +5,9 @@ use Rattle.std.specs.declared.cmp.Ordering.TheVariants.{Less, Equal, Greater}
 use Rattle.numbers.specs.Pick.{pick}
 use Rattle.frames.specs.Scan.{going, part_at, step_of}
 use Rattle.frames.specs.declared.place.Place.{Place}
-use Rattle.frames.specs.declared.scanner.ScanEntry.{ScanEntry}
+use Rattle.frames.specs.declared.steps.ScanEntry.{ScanEntry}
 use Rattle.frames.specs.Scan.{Scanned}
-use Rattle.frames.specs.declared.scanner.Step.TheVariants as scanned
+use Rattle.frames.specs.declared.steps.Step.TheVariants as scanned
 use Rattle.merge.specs.declared.parts.Part.{Part}
 use Rattle.merge.specs.declared.parts.MergeScanner.{MergeScanner}
 use Rattle.merge.specs.declared.heads.Head.{Head}

@@ -1,7 +1,7 @@
 -- Document 01's number for each refusal of the merge, and the values that come with it: the definitions of the answers name their refusals by these.
 use Rattle.std.specs.Prelude.{ℕ, ◌≡◌, List, [], ◌∷◌, Result, Err}
 use Rattle.frames.specs.Refusals.{scan_number, scan_values}
-use Rattle.frames.specs.declared.scanner.ScanRefusal.{ScanRefusal}
+use Rattle.frames.specs.declared.steps.ScanRefusal.{ScanRefusal}
 use Rattle.merge.specs.declared.refusals.DrainRefusal.{DrainRefusal}
 use Rattle.merge.specs.declared.refusals.DrainRefusal.TheVariants as drain
 use Rattle.merge.specs.declared.refusals.MergeRefusal.{MergeRefusal}

@@ -2,9 +2,9 @@
 use Rattle.std.specs.Prelude.{ℕ, suc, ◌*◌, ◌<◌, ◌≤◌, ◌≡◌, List, [], ◌∷◌, true, false, eqb, length, take, get_or, Some, None, Ok, Err}
 use Rattle.numbers.specs.Pick.{pick}
 use Rattle.numbers.specs.declared.handle.ValueHandle.{ValueHandle}
-use Rattle.frames.specs.declared.scanner.Scanner.{Scanner}
-use Rattle.frames.specs.declared.scanner.ScanEntry.{ScanEntry}
-use Rattle.frames.specs.declared.scanner.Step.TheVariants as scanned
+use Rattle.frames.specs.declared.steps.Scanner.{Scanner}
+use Rattle.frames.specs.declared.steps.ScanEntry.{ScanEntry}
+use Rattle.frames.specs.declared.steps.Step.TheVariants as scanned
 use Rattle.merge.specs.declared.parts.Part.{Part}
 use Rattle.merge.specs.declared.parts.MergeScanner.{MergeScanner}
 use Rattle.merge.specs.declared.heads.MergeEntry.{MergeEntry}

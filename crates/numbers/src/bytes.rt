@@ -1,9 +1,7 @@
-// Parts of lent bytes, a copy of bytes, and numbers in them.
+// Parts of lent bytes, and a copy of bytes.
 ghost use Rattle.std.specs.Prelude.{◌≡◌, ◌-◌, min, length, take, drop};
 ghost use Rattle.std.proofs.lemmas.List.Edits.{sets};
 ghost use Rattle.numbers.specs.Part.{behind};
-
-pub use crate::number::{get, put};
 
 // `room` and `lesser` are the library's `saturating_sub` and `min`: they stay as public calls that docs/PROMISES.md names.
 // How many of n stand from at on; none where at is past them.

@@ -8,3 +8,5 @@ pub mod leb128;
 mod number;
 mod spell;
 pub mod wide;
+
+pub use number::{get, put};

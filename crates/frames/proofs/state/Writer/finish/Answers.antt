@@ -1,6 +1,6 @@
 -- Each answer is a case of the definition.
 use Rattle.frames.proofs.FinishLaws.{finish-again, finish-empty, finish_full, finish-done}
-use Rattle.frames.proofs.writer.Writer.finish.Goals as goal
+use Rattle.frames.proofs.state.Writer.finish.Goals as goal
 
 pub returns-then-self : goal.returns-then-self
 returns-then-self c =

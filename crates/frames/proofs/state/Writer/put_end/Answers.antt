@@ -1,7 +1,7 @@
 -- The mark is stored, or nothing.
 use Rattle.frames.proofs.AnswerLaws.{end-stored, end_none}
 use borrow.Author.Rules.{rules}
-use Rattle.frames.proofs.writer.Writer.put_end.Goals as goal
+use Rattle.frames.proofs.state.Writer.put_end.Goals as goal
 
 pub returns-then-self : goal.returns-then-self
 returns-then-self c = search (rules, end-stored)

@@ -2,7 +2,7 @@
 use Rattle.std.proofs.Common.{sym}
 use native.Mathlib.Omega.{arith}
 use Rattle.frames.proofs.FinishLaws.{next_early, next_last, next-done}
-use Rattle.frames.proofs.writer.Writer.next_file.Goals as goal
+use Rattle.frames.proofs.state.Writer.next_file.Goals as goal
 
 pub returns-then-not-self : goal.returns-then-not-self
 returns-then-not-self c = rw c.refused.ensures (sym (next_early c.args.self c.if-not-self.true))

@@ -1,7 +1,7 @@
 -- What is taken is written as the definition says; what is refused leaves every byte as it is.
 use Rattle.frames.specs.Shape.{item_of}
 use Rattle.frames.proofs.AnswerLaws.{append_refused, append_written, append_fits}
-use Rattle.frames.proofs.writer.Writer.append_raw.Goals as goal
+use Rattle.frames.proofs.state.Writer.append_raw.Goals as goal
 
 pub returns-in_err-appended-clause-bytes : goal.returns-in_err-appended-clause-bytes
 returns-in_err-appended-clause-bytes c =

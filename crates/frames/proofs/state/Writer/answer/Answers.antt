@@ -7,7 +7,7 @@ use Rattle.frames.specs.Write.{handed_back}
 use Rattle.frames.specs.WriteLaws.{taken}
 use Rattle.frames.proofs.Mapped.{was_err, was_ok}
 use Rattle.frames.proofs.AnswerLaws.{answer_refused, answer_taken}
-use Rattle.frames.proofs.writer.Writer.answer.Goals as goal
+use Rattle.frames.proofs.state.Writer.answer.Goals as goal
 
 pub returns-in_err-writer : goal.returns-in_err-writer
 returns-in_err-writer c =

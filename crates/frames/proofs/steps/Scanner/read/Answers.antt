@@ -3,7 +3,7 @@ use Rattle.std.proofs.Common.{sym, ◌∙◌}
 use Rattle.std.proofs.lemmas.Result.{err_from_is_err_and}
 use Rattle.frames.proofs.ScanLaws.{frame-header, frame-key, frame-value, frame-whole, at_cut, at-meta, at-blob, at_other, tail-has}
 use borrow.Author.Rules.{rules}
-use Rattle.frames.proofs.scanner.Scanner.read.Goals as goal
+use Rattle.frames.proofs.steps.Scanner.read.Goals as goal
 
 pub returns-in_err-has : goal.returns-in_err-has
 returns-in_err-has c =

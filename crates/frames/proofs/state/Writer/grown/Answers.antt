@@ -5,8 +5,8 @@ use borrow.Author.Rules.{rules}
 use Rattle.frames.specs.WriteLaws.{judge_finished}
 use Rattle.frames.proofs.Fields.{grown_law}
 use Rattle.frames.proofs.GrowthLaws.{judge_empty, judge_long, judge_value, judge_room, judge_over, judge_go, counted_over, counted_fits, first_here, first_kept}
-use Rattle.frames.proofs.writer.Writer.grown.Goals as goal
-use Rattle.frames.proofs.writer.Writer.grown.Goals.{then-shape-eq0-via-then-shape-eq0, then-shape-eq0-via-else-shape-eq0+then-shape-gt-KEY_MOST}
+use Rattle.frames.proofs.state.Writer.grown.Goals as goal
+use Rattle.frames.proofs.state.Writer.grown.Goals.{then-shape-eq0-via-then-shape-eq0, then-shape-eq0-via-else-shape-eq0+then-shape-gt-KEY_MOST}
 
 pub returns-then-self : goal.returns-then-self
 returns-then-self c = sym (search (rules, judge_finished))

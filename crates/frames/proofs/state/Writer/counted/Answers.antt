@@ -2,7 +2,7 @@
 use Rattle.std.proofs.Common.{sym}
 use native.Mathlib.Omega.{arith}
 use Rattle.frames.proofs.CountLaws.{over-items, over-disk, over-stated, over_none}
-use Rattle.frames.proofs.writer.Writer.counted.Goals as goal
+use Rattle.frames.proofs.state.Writer.counted.Goals as goal
 
 pub returns-in_err-checked_add : goal.returns-in_err-checked_add
 returns-in_err-checked_add c =

@@ -2,7 +2,7 @@
 use mathlib.Core.Path.{◌∙◌}
 use Rattle.frames.proofs.PlainLaws.{plain-append}
 use borrow.Author.Rules.{rules}
-use Rattle.frames.proofs.writer.Writer.append.Goals as goal
+use Rattle.frames.proofs.state.Writer.append.Goals as goal
 
 pub returns : goal.returns
 returns c = let a = c.args in
