@@ -41,7 +41,7 @@ abbrev pub cut_at : ℕ → ℕ → ℕ → Scanner → Framed
 cut_at at needed present w =
     refuse_frame (7 ∷ at ∷ needed ∷ present ∷ []) (frame.CutShort (cut_of at needed present)) refl w
 
--- a read that was cut short is refused, and the scanner handed back as it came
+-- the code's own, of a private function: a read that was cut short is refused, and the scanner handed back as it came
 abbrev pub cut_back : Scanner → Result Framed CutShort → Framed
 cut_back w (Ok framed) = framed
 cut_back w (Err cut) = refuse_frame (7 ∷ values_of_cut cut) (frame.CutShort cut) refl w
