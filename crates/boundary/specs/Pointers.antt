@@ -33,10 +33,22 @@ pointer_at row = pointer_of (get_or row 0 0) (get_or row 1 0) (get_or row 2 0)
 abbrev pub rows_in : List ℕ → List (List ℕ)
 rows_in numbers = first_chunks 3 (length numbers / 3) numbers
 
--- the pointers that rows of three numbers are, or why they are none
-unfoldable pub pointers_in : List ℕ → Result (List BlobIndirection) ListRefusal
-pointers_in numbers =
+-- the rows that numbers are, or why they are none
+unfoldable pub rows_of : List ℕ → Result (List (List ℕ)) ListRefusal
+rows_of numbers =
     pick (eqb (length numbers % 3) 0)
-    (pick (ltb 1024 (length numbers / 3)) (refuse_list 3 list.NoRoom refl)
-    (pick (list_all narrow (rows_in numbers)) (Ok (map pointer_at (rows_in numbers))) (refuse_list 10 list.TooLong refl)))
+    (pick (ltb 1024 (length numbers / 3)) (refuse_list 3 list.NoRoom refl) (Ok (rows_in numbers)))
     (refuse_list 7 list.CutShort refl)
+
+-- the pointers that rows are, or why they are none
+unfoldable pub pointers_of : List (List ℕ) → Result (List BlobIndirection) ListRefusal
+pointers_of rows = pick (list_all narrow rows) (Ok (map pointer_at rows)) (refuse_list 10 list.TooLong refl)
+
+-- the same of rows that may be none
+abbrev pub pointers_by : Result (List (List ℕ)) ListRefusal → Result (List BlobIndirection) ListRefusal
+pointers_by (Ok rows) = pointers_of rows
+pointers_by (Err why) = Err why
+
+-- the pointers that numbers are, row by row of three, or why they are none
+abbrev pub pointers_in : List ℕ → Result (List BlobIndirection) ListRefusal
+pointers_in numbers = pointers_by (rows_of numbers)

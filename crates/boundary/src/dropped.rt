@@ -9,7 +9,7 @@ ghost use Rattle.boundary.specs.Pointers.{pointer_of};
 ghost use Rattle.boundary.specs.Rows.{counted};
 
 use super::count::counted;
-use super::pointers::{pointer, pointers_in};
+use super::pointers::{pointer, pointers_in, rows_in};
 use garbage::batch::drop_all;
 use garbage::dropped::drop_into;
 use garbage::map::{CountRefusal, FragmentationMap};
@@ -108,6 +108,10 @@ pub extern "C" fn pd_batch(
     ensures map { map_at count.new ids.new frames.new stated.new disk.new
         ≡ (batched_of (map_at count.old ids.old frames.old stated.old disk.old) rows.now).map }
 {
+    let rows = match rows_in(rows) {
+        Ok(rows) => rows,
+        Err(why) => return why.number(),
+    };
     let mut list = [pointer(0, 0, 0); 1024];
     match pointers_in(&mut list, rows) {
         Ok(pointers) => {

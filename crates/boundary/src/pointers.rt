@@ -1,8 +1,8 @@
 // Rows of three numbers as the pointers that they are: file, on-disk size, stated length.
-ghost use Rattle.std.specs.Prelude.{◌≡◌, Ok, Err, MatchResult};
+ghost use Rattle.std.specs.Prelude.{◌≡◌, ◌≤◌, length, Ok, Err, MatchResult};
 ghost use Rattle.numbers.specs.Pick.{pick};
 ghost use Rattle.boundary.specs.declared.pointers.ListRefusal.TheVariants.{TooLong};
-ghost use Rattle.boundary.specs.Pointers.{pointer_of, narrow, pointer_at, pointers_in, list_number};
+ghost use Rattle.boundary.specs.Pointers.{pointer_of, narrow, pointer_at, rows_of, pointers_of, list_number};
 
 use numbers::handle::{BlobIndirection, ValueHandle};
 use std::num::TryFromIntError;
@@ -57,14 +57,11 @@ fn pointer_at(row: [u64; 3]) -> Result<BlobIndirection, ListRefusal>
     Ok(pointer(file, u32::try_from(size)?, u32::try_from(stated)?))
 }
 
-// The pointers that rows of numbers are, laid down in the list: at indices, as of `list.iter_mut().zip(rows)` the proof learns nothing of what the
-// places hold afterwards.
-#[tactic(auto, unfolding(crate::specs::Pointers::pointers_in, numbers::specs::Pick::pick))]
-pub(crate) fn pointers_in<'a>(
-    list: &'a mut [BlobIndirection; 1024],
-    numbers: &[u64],
-) -> Result<&'a [BlobIndirection], ListRefusal>
-    ensures { MatchResult result (λ ps. pointers_in numbers.now ≡ Ok ps.now) (λ why. pointers_in numbers.now ≡ Err why) }
+// The rows of three numbers, no more than the list has room for.
+#[tactic(auto, unfolding(crate::specs::Pointers::rows_of, numbers::specs::Pick::pick))]
+pub(crate) fn rows_in(numbers: &[u64]) -> Result<&[[u64; 3]], ListRefusal>
+    ensures answer { MatchResult result (λ rows. rows_of numbers.now ≡ Ok rows.now) (λ why. rows_of numbers.now ≡ Err why) }
+    ensures room { MatchResult result (λ rows. length rows.now ≤ 1024) (λ why. Unit) }
 {
     let (rows, rest) = numbers.as_chunks::<3>();
     if !rest.is_empty() {
@@ -73,6 +70,19 @@ pub(crate) fn pointers_in<'a>(
     if 1024 < rows.len() {
         return Err(ListRefusal::NoRoom);
     }
+    Ok(rows)
+}
+
+// The pointers that rows are, laid down in the list: at indices, as of `list.iter_mut().zip(rows)` the proof learns nothing of what the places hold
+// afterwards.
+#[tactic(auto, unfolding(crate::specs::Pointers::pointers_of, numbers::specs::Pick::pick))]
+pub(crate) fn pointers_in<'a>(
+    list: &'a mut [BlobIndirection; 1024],
+    rows: &[[u64; 3]],
+) -> Result<&'a [BlobIndirection], ListRefusal>
+    requires { length rows.now ≤ 1024 }
+    ensures { MatchResult result (λ ps. pointers_of rows.now ≡ Ok ps.now) (λ why. pointers_of rows.now ≡ Err why) }
+{
     for (i, row) in rows.iter().enumerate() {
         list[i] = pointer_at(*row)?;
     }

@@ -5,32 +5,24 @@ use crate::pointers::Numbers;
 use crate::stop::Stop;
 use frames::place::Place;
 use frames::writer::{AppendRefusal, Appended, Closed, Refused, Report, Writer};
+use std::io;
 use std::io::Write;
-use std::{fmt, io};
-
-// A place's first byte and length, as this program's lines have them (docs/CALLS.md).
-#[derive(Clone, Copy)]
-struct At(Place);
-
-impl fmt::Display for At {
-    fn fmt<W: fmt::Write>(&self, f: &mut fmt::Formatter<W>) -> fmt::Result {
-        write!(f, "{} {}", self.0.at, self.0.len)
-    }
-}
 
 fn done(out: &mut Output, r: Report) -> io::Result<()> {
-    write!(out, "done {} {} {}", r.items, r.disk, r.stated)?;
-    writeln!(out, " {} {}", At(r.first), At(r.last))
+    let places = [r.first.at, r.first.len, r.last.at, r.last.len];
+    write!(out, "done")?;
+    out.numbers(&[r.items, r.disk, r.stated])?;
+    out.numbers(&places.map(|x| x as u64))?;
+    writeln!(out)
 }
 
 fn show(out: &mut Output, w: Writer) -> io::Result<()> {
-    write!(
-        out,
-        "writer {} {} {} {} {}",
-        w.id, w.offset, w.items, w.disk, w.stated
-    )?;
-    write!(out, " {} {}", w.target, w.finished as u8)?;
-    writeln!(out, " {} {}", At(w.first), At(w.last))
+    let places = [w.first.at, w.first.len, w.last.at, w.last.len];
+    write!(out, "writer")?;
+    out.numbers(&[w.id, w.offset as u64, w.items, w.disk, w.stated])?;
+    out.numbers(&[w.target, w.finished as u64])?;
+    out.numbers(&places.map(|x| x as u64))?;
+    writeln!(out)
 }
 
 fn place(input: &mut Input) -> Result<Place, Malformed> {

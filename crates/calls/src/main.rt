@@ -34,5 +34,5 @@ fn main(rt: HostRuntime) -> io::Result<()> {
         Err(Stop::Malformed) => writeln!(out, "bad")?,
         Err(Stop::Write(why)) => return Err(why),
     }
-    out.flush()
+    out.end()
 }

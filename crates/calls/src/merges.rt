@@ -2,7 +2,7 @@
 use crate::input::{Input, Malformed};
 use crate::output::{Output, agreed};
 use crate::rows::agree;
-use crate::scans::{at, refusal};
+use crate::scans::{both, refusal};
 use crate::stop::Stop;
 use merge::heads::MergeEntry;
 use merge::next::Merged;
@@ -41,12 +41,15 @@ pub fn table(input: &mut Input) -> Result<MergeScanner, Malformed> {
 }
 
 fn entry(out: &mut Output, image: &[u8], e: MergeEntry) -> io::Result<()> {
-    write!(
-        out,
-        "entry {} {} {} {} {}",
-        e.part, e.file, e.offset, e.seqno, e.stated
-    )?;
-    writeln!(out, " {} {}", at(image, e.key), at(image, e.value))
+    write!(out, "entry")?;
+    out.numbers(&[
+        e.part as u64,
+        e.file,
+        e.offset as u64,
+        e.seqno,
+        e.stated as u64,
+    ])?;
+    both(out, image, e.key, e.value)
 }
 
 pub fn refused(out: &mut Output, why: MergeRefusal) -> io::Result<()> {

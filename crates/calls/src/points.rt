@@ -1,7 +1,7 @@
 // The letter P: a point read.
 use crate::hashes::Sum;
 use crate::input::Input;
-use crate::output::{Hex, Output, agreed};
+use crate::output::{Output, agreed};
 use crate::pointers::handle;
 use crate::stop::Stop;
 use frames::place::Place;
@@ -14,7 +14,11 @@ use std::io::Write;
 
 fn line(out: &mut Output, file: &[u8], told: Told) -> io::Result<()> {
     match told.number {
-        0 => writeln!(out, "value {}", Hex(value(file, told))),
+        0 => {
+            write!(out, "value ")?;
+            out.hex(value(file, told))?;
+            writeln!(out)
+        }
         9 => writeln!(out, "refused 9 {} {}", Sum(told.stored), Sum(told.computed)),
         number => writeln!(out, "refused {number}"),
     }

@@ -1,7 +1,7 @@
 // The letter S: a file scanned from its first byte.
 use crate::hashes::Sum;
 use crate::input::Input;
-use crate::output::{Hex, Output, agreed};
+use crate::output::{Output, agreed};
 use crate::stop::Stop;
 use frames::held::held_step;
 use frames::place::Place;
@@ -10,18 +10,24 @@ use numbers::bytes::part;
 use std::io;
 use std::io::Write;
 
-// A place's bytes.
-pub fn at(file: &[u8], place: Place) -> Hex<'_> {
-    Hex(part(file, place.at, place.len))
+// The bytes of a key's place and of a value's, as a line's end.
+pub fn both(out: &mut Output, file: &[u8], key: Place, value: Place) -> io::Result<()> {
+    out.write_all(b" ")?;
+    out.hex(part(file, key.at, key.len))?;
+    out.write_all(b" ")?;
+    out.hex(part(file, value.at, value.len))?;
+    writeln!(out)
 }
 
 fn entry(out: &mut Output, file: &[u8], e: ScanEntry) -> io::Result<()> {
-    write!(
-        out,
-        "entry {} {} {} {}",
-        e.offset, e.seqno, e.stated, e.value.len
-    )?;
-    writeln!(out, " {} {}", at(file, e.key), at(file, e.value))
+    write!(out, "entry")?;
+    out.numbers(&[
+        e.offset as u64,
+        e.seqno,
+        e.stated as u64,
+        e.value.len as u64,
+    ])?;
+    both(out, file, e.key, e.value)
 }
 
 // A refused scan, with a number that says where.

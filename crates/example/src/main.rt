@@ -2,14 +2,14 @@
 // by document 01's rules: a frame is 38 bytes, key and value, so the second one begins at 38 + 6 + 19.
 #![tactic(auto)]
 
-use anyhow::Result;
 use frames::reader::{look, value};
 use frames::scanner::{Scanned, Scanner};
 use frames::writer::Writer;
 use numbers::bytes::part;
+use std::io;
 
 // Every step but the last moves on, so a scan is over within as many steps as the file has bytes.
-fn list(rt: &impl Print, file: &[u8]) -> Result<()> {
+fn list(rt: &impl Print, file: &[u8]) -> io::Result<()> {
     let mut scanner = Scanner::new();
     for _ in 0..file.len() {
         let Scanned::Entry(e, next) = scanner.step(file) else {
@@ -23,18 +23,22 @@ fn list(rt: &impl Print, file: &[u8]) -> Result<()> {
     Ok(())
 }
 
-// A refusal ends the program, which says why.
-fn main(rt: HostRuntime) -> Result<()> {
+// A refusal ends the program.
+fn main(rt: HostRuntime) -> io::Result<()> {
     let mut file = [0; 256];
-    let engine = Writer::new(1).append(&mut file, b"engine", 7, b"image of the engine")?;
-    let brakes = engine
-        .writer
-        .append(&mut file, b"brakes", 9, b"image of the brakes")?;
-    brakes.writer.finish(&mut file)?;
+    let Ok(engine) = Writer::new(1).append(&mut file, b"engine", 7, b"image of the engine") else {
+        return Ok(());
+    };
+    let w = engine.writer;
+    let Ok(brakes) = w.append(&mut file, b"brakes", 9, b"image of the brakes") else {
+        return Ok(());
+    };
+    let Ok(_) = brakes.writer.finish(&mut file) else {
+        return Ok(());
+    };
     list(&rt, &file)?;
     let told = look(&file, b"engine", engine.pointer.handle);
     print!(rt; "engine, by its handle: ")?;
     rt.write_all(value(&file, told))?;
-    println!(rt)?;
-    Ok(())
+    println!(rt)
 }

@@ -1,4 +1,5 @@
--- Read first: Layout, Cut, Refusals, Shape, Write, Scan, Point, Held, which are document 01; then Runs, Scans, Theorems; the others are laws that other crates' proofs cite, and what they stand on.
+-- Read first: Layout, Cut, Refusals, Shape, Write, Scan, Point, Held, which are document 01; Said, what `{}` prints of a refusal; then Runs, Scans, Theorems.
+-- The others are laws that other crates' proofs cite, and what they stand on.
 pub mod Layout
 pub mod Cut
 pub mod Refusals
@@ -7,6 +8,7 @@ pub mod Write
 pub mod Scan
 pub mod Point
 pub mod Held
+pub mod Said
 pub mod Runs
 pub mod Scans
 pub mod Ran

@@ -2,13 +2,14 @@
 use Prim.Native.Nat.{ℕ, zero, suc, ◌≤◌, ◌<◌}
 use mathlib.Core.Path.{◌≡◌, refl, sym, ◌∙◌, ap}
 use mathlib.Core.List.{List, [], ◌∷◌}
-use mathlib.Core.Bool.{true, false}
+use mathlib.Core.Bool.{Bool, true, false}
 use native.Mathlib.Omega.{arith}
 use lib.ListN.{length, get_or}
 use lib.Dec.{leb, ltb}
 use Rattle.std.specs.List.Sorted.{IsPartitionedBy}
-use borrow.Author.Tests.{leb-true, le-leb, lt-ltb, le-ltb, ltb-true}
-use Rattle.garbage.specs.Columns.{place_in, rising_from, StandsAt, GoesTo}
+use borrow.Author.Tests.{leb-true, le-leb, lt-ltb, le-ltb, ltb-true, ltb-false}
+use Rattle.numbers.specs.Pick.{pick}
+use Rattle.garbage.specs.Columns.{lower_in, place_in, rising_from, StandsAt, GoesTo}
 use Rattle.garbage.proofs.Bools.{and_l, and_r, both, by_test, same_or}
 
 above_all : (lo : ℕ) (xs : List ℕ) → rising_from lo xs ≡ true → (k : ℕ) → k < length xs → lo ≤ get_or xs k 0
@@ -54,6 +55,44 @@ module _ (id : ℕ) (xs : List ℕ) (i : ℕ) where
     within = h;
     absent = λ q e. omega (arith, b q, e);
   }
+
+-- ---- by count
+-- among ids that ascend the lower ones stand in front
+pub record Lowest (id : ℕ) (xs : List ℕ) (n : ℕ) : Type 0 where
+  pub within : n ≤ length xs
+  pub lower : (k : ℕ) → k < n → get_or xs k 0 < id
+  pub others : (k : ℕ) → n ≤ k → k < length xs → id ≤ get_or xs k 0
+
+pub lowest : (id lo : ℕ) (xs : List ℕ) → rising_from lo xs ≡ true → Lowest id xs (lower_in id xs)
+unfolding rising_from lower_in pick
+lowest id lo [] t = record { within = omega arith; lower = λ k q. absurd (omega arith); others = λ k p q. absurd (omega arith) }
+lowest id lo (x ∷ xs) t = go (lowest id (suc x) xs (and_r (leb lo x) (rising_from (suc x) xs) t)) (ltb x id) refl
+  where
+    r : rising_from (suc x) xs ≡ true
+    r = and_r (leb lo x) (rising_from (suc x) xs) t
+
+    above : (k : ℕ) → k < length xs → suc x ≤ get_or xs k 0
+    above = above_all (suc x) xs r
+
+    below : Lowest id xs (lower_in id xs) → ltb x id ≡ true → (k : ℕ) → k < suc (lower_in id xs) → get_or (x ∷ xs) k 0 < id
+    below l e zero q = ltb-true x id e
+    below l e (suc k) q = l.lower k (omega arith)
+
+    beyond : Lowest id xs (lower_in id xs) → (k : ℕ) → suc (lower_in id xs) ≤ k → k < suc (length xs) → id ≤ get_or (x ∷ xs) k 0
+    beyond l zero p q = absurd (omega arith)
+    beyond l (suc k) p q = l.others k (omega arith) (omega arith)
+
+    all : id ≤ x → (k : ℕ) → k < suc (length xs) → id ≤ get_or (x ∷ xs) k 0
+    all h zero q = h
+    all h (suc k) q = omega (arith, above k (omega arith), h)
+
+    none : (n : ℕ) → id ≤ x → Lowest id xs n → Lowest id (x ∷ xs) n
+    none zero h l = record { within = omega arith; lower = λ k q. absurd (omega arith); others = λ k p q. all h k q }
+    none (suc n) h l = absurd (omega (arith, l.lower 0 (omega arith), above 0 (omega (arith, l.within)), h))
+
+    go : Lowest id xs (lower_in id xs) → (b : Bool) → ltb x id ≡ b → Lowest id (x ∷ xs) (pick b (suc (lower_in id xs)) (lower_in id xs))
+    go l true e = record { within = omega (arith, l.within); lower = below l e; others = beyond l }
+    go l false e = none (lower_in id xs) (ltb-false x id e) l
 
 -- ---- neighbours
 pub all_rise : (xs : List ℕ) → ((k : ℕ) → suc k < length xs → get_or xs k 0 < get_or xs (suc k) 0) → rising_from 0 xs ≡ true

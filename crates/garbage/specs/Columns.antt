@@ -28,6 +28,11 @@ unfoldable pub place_in : ℕ → List ℕ → ℕ
 place_in id [] = 0
 place_in id (x ∷ xs) = one_more (ltb x id) (place_in id xs)
 
+-- how many ids are lower
+unfoldable pub lower_in : ℕ → List ℕ → ℕ
+lower_in id [] = 0
+lower_in id (x ∷ xs) = pick (ltb x id) (suc (lower_in id xs)) (lower_in id xs)
+
 -- `id` stands at that place, or something else does, or nothing
 pub record StandsAt (id : ℕ) (ids : List ℕ) (i : ℕ) : Type 0 where
   pub place : i ≡ place_in id ids

@@ -1,8 +1,9 @@
 -- Document 01's number for each refusal of the map, and the values that come with it: the definitions of the answers name their refusals by these.
-use Rattle.std.specs.Prelude.{ℕ, ◌≡◌, List, [], ◌∷◌, Result, Err}
+use Rattle.std.specs.Prelude.{ℕ, ◌≡◌, List, [], ◌∷◌, Option, Some, None, Result, Ok, Err}
 use Rattle.numbers.specs.Refusals.{values_of_cut, read_number, read_values}
 use Rattle.garbage.specs.declared.map.CountRefusal.{CountRefusal}
 use Rattle.garbage.specs.declared.map.CountRefusal.TheVariants.{MapFull, SumTooBig}
+use Rattle.garbage.specs.declared.map.FragmentationEntry.{FragmentationEntry}
 use Rattle.garbage.specs.declared.map.MapFull.{MapFull as Malformed}
 use Rattle.garbage.specs.declared.record.RecordRefusal.{RecordRefusal}
 use Rattle.garbage.specs.declared.record.RecordRefusal.TheVariants.{Number, Count}
@@ -53,7 +54,18 @@ load_values load.MapFull = []
 abbrev pub load_says : LoadRefusal → List ℕ
 load_says why = load_number why ∷ load_values why
 
--- Verdicts that can be refused by 11 alone carry no refusal of their own. 0 is no refusal's number: nothing is refused.
+-- Answers, as a whole: 0 is no refusal's number: nothing is refused.
+
+abbrev pub lookup_number : Result (Option FragmentationEntry) Malformed → ℕ
+lookup_number (Ok (Some e)) = 0
+lookup_number (Ok None) = 0
+lookup_number (Err why) = full_number why
+
+abbrev pub prune_number : Result (Unit {0}) Malformed → ℕ
+prune_number (Ok done) = 0
+prune_number (Err why) = full_number why
+
+-- Verdicts that can be refused by 11 alone carry no refusal of their own; 0 as above.
 
 abbrev pub dead_number : DeadVerdict → ℕ
 dead_number dead.Dead = 0

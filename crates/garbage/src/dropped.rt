@@ -46,7 +46,7 @@ pub fn drop_into(
         disk,
     };
     if lent.well_formed() {
-        return lent.add(one_of(p));
+        return lent.add_one(one_of(p));
     }
     Err(CountRefusal::MapFull)
 }

@@ -6,7 +6,7 @@ ghost use Rattle.garbage.specs.Drops.{answered};
 ghost use Rattle.garbage.specs.Stored.{instead};
 ghost use Rattle.garbage.specs.Columns.{held, Same, Told, Ready, Rising, Whole, rising_from, StandsAt, GoesTo, inserted_at, put_at, written, pushed};
 
-use crate::ids::{in_order, place};
+use crate::ids::{in_order, place, place_by_count};
 use crate::map::{CountRefusal, FragmentationEntry};
 
 // Whoever lends a map takes it apart in place: of a method that returned the five references, no clause tells a caller what the map holds after
@@ -31,8 +31,13 @@ fn put_in<T: Copy>(column: &mut [T], n: usize, i: usize, x: T)
     requires { (i ≤ n) × (n < length column.old) }
     ensures { column.new ≡ inserted_at n i x column.old }
 {
-    column[i..n + 1].rotate_right(1);
-    column[i] = x;
+    let mut carried = x;
+    // By the number: `rotate_right` asks the linker for a `memmove`, which an archive of these crates did without.
+    for j in i..n + 1 {
+        let there = column[j];
+        column[j] = carried;
+        carried = there;
+    }
 }
 
 impl<'a> Lent<'a> {
@@ -114,7 +119,32 @@ impl<'a> Lent<'a> {
         ensures same { Same self.old self.new }
         ensures is { record { answer = result; map = held self.new } ≡ answered (held self.old) (judged (added e (entries_of (held self.old)))) }
     {
-        match self.place(e.id) {
+        let place = self.place(e.id);
+        self.add_at(place, e)
+    }
+
+    // The same of one entry alone.
+    pub(crate) fn add_one(&mut self, e: FragmentationEntry) -> Result<(), CountRefusal>
+        requires { Ready (held self.old) }
+        ensures same { Same self.old self.new }
+        ensures is { record { answer = result; map = held self.new } ≡ answered (held self.old) (judged (added e (entries_of (held self.old)))) }
+    {
+        let place = place_by_count(&self.ids[..*self.count], e.id);
+        self.add_at(place, e)
+    }
+
+    // The same at the place of its id.
+    fn add_at(
+        &mut self,
+        place: Result<usize, usize>,
+        e: FragmentationEntry,
+    ) -> Result<(), CountRefusal>
+        requires ready { Ready (held self.old) }
+        requires place { MatchResult place (StandsAt e.id (take (held self.old).count (held self.old).ids)) (GoesTo e.id (take (held self.old).count (held self.old).ids)) }
+        ensures same { Same self.old self.new }
+        ensures is { record { answer = result; map = held self.new } ≡ answered (held self.old) (judged (added e (entries_of (held self.old)))) }
+    {
+        match place {
             Ok(i) => self.grow(i, e),
             Err(i) => {
                 if *self.count == 64 {

@@ -4,13 +4,13 @@ ghost use Rattle.numbers.specs.Pick.{pick};
 ghost use Rattle.garbage.specs.Entries.{plus, fits};
 ghost use Rattle.garbage.specs.Maps.{columns_of, empty_map, entry_at, well_formed};
 ghost use Rattle.garbage.specs.Lookups.{lookup_of};
-ghost use Rattle.garbage.specs.Refusals.{count_number, full_number};
+ghost use Rattle.garbage.specs.Refusals.{count_number, full_number, lookup_number};
 ghost use Rattle.garbage.specs.declared.map.CountRefusal.TheVariants as refusal;
 
 use crate::ids::{in_order, place};
 
 // What was dropped of one file: frames, stated bytes, on-disk value bytes.
-#[derive(Clone, Copy)]
+#[derive(Clone, Copy, PartialEq, Eq)]
 pub struct FragmentationEntry {
     pub id: u64,
     pub frames: u32,
@@ -29,7 +29,7 @@ pub struct FragmentationMap {
 }
 
 // The map is malformed.
-#[derive(Clone, Copy)]
+#[derive(Clone, Copy, PartialEq, Eq)]
 pub struct MapFull;
 
 // Why nothing was added up: the map is malformed or would hold more than 64 ids, or a total would pass its width.
@@ -57,6 +57,17 @@ impl CountRefusal {
             CountRefusal::MapFull => 11,
             CountRefusal::SumTooBig => 12,
         }
+    }
+}
+
+// Document 01's number of a look-up's answer; 0 where nothing is refused.
+pub fn lookup_number(answer: Result<Option<FragmentationEntry>, MapFull>) -> u64
+    ensures { result ≡ lookup_number answer }
+{
+    match answer {
+        Ok(Some(_)) => 0,
+        Ok(None) => 0,
+        Err(why) => why.number(),
     }
 }
 

@@ -11,7 +11,7 @@ use crate::lent::{Lent, told};
 use crate::map::{CountRefusal, FragmentationEntry, FragmentationMap};
 
 // The target holds the totals of both and the source is empty; refused, both are as they came in.
-#[derive(Clone, Copy)]
+#[derive(Clone, Copy, PartialEq, Eq)]
 pub struct Merged {
     pub answer: Result<(), CountRefusal>,
     pub source: FragmentationMap,

@@ -3,15 +3,26 @@ ghost use Rattle.std.specs.Prelude.{◌≡◌, ◌≤◌};
 ghost use Rattle.garbage.specs.Maps.{Columns, columns_of, entries_of, map_of, holding};
 ghost use Rattle.garbage.specs.Columns.{held, Same, Whole};
 ghost use Rattle.garbage.specs.Merges.{kept_of, pruned_of, stale_bytes_of};
+ghost use Rattle.garbage.specs.Refusals.{prune_number};
 
 use crate::lent::Lent;
 use crate::map::{CountRefusal, FragmentationMap, MapFull};
 
 // Refused, the map is as it came in.
-#[derive(Clone, Copy)]
+#[derive(Clone, Copy, PartialEq, Eq)]
 pub struct Pruned {
     pub answer: Result<(), MapFull>,
     pub map: FragmentationMap,
+}
+
+// Document 01's number of a prune's answer; 0 where nothing is refused.
+pub fn prune_number(answer: Result<(), MapFull>) -> u64
+    ensures { result ≡ prune_number answer }
+{
+    match answer {
+        Ok(()) => 0,
+        Err(why) => why.number(),
+    }
 }
 
 impl<'a> Lent<'a> {

@@ -10,14 +10,14 @@ use numbers::handle::BlobIndirection;
 use numbers::leb128::NumberRefusal;
 
 // Why a record was not counted: a number of it could not be read, or the drop was refused.
-#[derive(Clone, Copy)]
+#[derive(Clone, Copy, PartialEq, Eq)]
 pub enum RecordRefusal {
     Number(NumberRefusal),
     Count(CountRefusal),
 }
 
 // Refused, the map is as it came in.
-#[derive(Clone, Copy)]
+#[derive(Clone, Copy, PartialEq, Eq)]
 pub struct RecordDropped {
     pub answer: Result<(), RecordRefusal>,
     pub map: FragmentationMap,

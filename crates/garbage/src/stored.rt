@@ -13,20 +13,20 @@ use crate::map::{FragmentationEntry, FragmentationMap};
 use numbers::cut::CutShort;
 use numbers::{get, put};
 
-#[derive(Clone, Copy)]
+#[derive(Clone, Copy, PartialEq, Eq)]
 pub enum StoreRefusal {
     MapFull,
     NoRoom,
 }
 
-#[derive(Clone, Copy)]
+#[derive(Clone, Copy, PartialEq, Eq)]
 pub enum LoadRefusal {
     CutShort(CutShort),
     MapFull,
 }
 
 // The map that was read, and the bytes it took; refused, an empty one.
-#[derive(Clone, Copy)]
+#[derive(Clone, Copy, PartialEq, Eq)]
 pub struct Loaded {
     pub answer: Result<usize, LoadRefusal>,
     pub map: FragmentationMap,
@@ -60,10 +60,11 @@ fn put_entry(buf: &mut [u8], at: usize, e: FragmentationEntry)
     requires { at + 28 ≤ length buf.old }
     ensures { buf.new ≡ sets buf.old at (entry_bytes e) }
 {
-    put(buf, at, e.id);
-    put(buf, at + 8, e.frames);
-    put(buf, at + 12, e.stated);
-    put(buf, at + 20, e.disk);
+    let place = &mut buf[at..at + 28];
+    put(place, 0, e.id);
+    put(place, 8, e.frames);
+    put(place, 12, e.stated);
+    put(place, 20, e.disk);
 }
 
 fn get_entry(s: &[u8], at: usize) -> FragmentationEntry

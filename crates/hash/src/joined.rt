@@ -15,11 +15,14 @@ use super::text::Text;
 use super::{Hash128, early, long, medium};
 use numbers::bytes::copy;
 
-// Up to 16 bytes, gathered.
+// Up to 16 bytes, gathered. An empty key leaves one slice.
 fn gathered(key: &[u8], value: &[u8]) -> Hash128
     requires { length key.now + length value.now ≤ 16 }
     ensures { result ≡ xxh3_128 (key.now ++ value.now) }
 {
+    if key.len() == 0 {
+        return upto_16(value);
+    }
     let mut buf = [0u8; 16];
     let m = key.len();
     let n = m + value.len();

@@ -12,6 +12,7 @@ use super::primes::{
 use super::secret::word;
 use super::words::{avalanche, fold, read64};
 use super::{Hash128, early};
+use numbers::wide::wrapping_mul;
 
 pub(crate) const START: [u64; 8] = [
     PRIME32_3, PRIME64_1, PRIME64_2, PRIME64_3, PRIME64_4, PRIME32_2, PRIME64_5, PRIME32_1,
@@ -49,7 +50,7 @@ fn scramble(acc: [u64; 8]) -> [u64; 8]
     let mut r = acc;
     for (k, lane) in r.iter_mut().enumerate() {
         let x = (*lane ^ (*lane >> 47)) ^ word(128 + 8 * k);
-        *lane = x.wrapping_mul(PRIME32_1);
+        *lane = wrapping_mul(x, PRIME32_1);
     }
     r
 }
@@ -112,8 +113,8 @@ pub(crate) fn finish(acc: [u64; 8], n: u64) -> Hash128
     ensures { result ≡ finish_of n acc }
 {
     Hash128 {
-        low: merge(acc, n.wrapping_mul(PRIME64_1), 11),
-        high: merge(acc, !n.wrapping_mul(PRIME64_2), 117),
+        low: merge(acc, wrapping_mul(n, PRIME64_1), 11),
+        high: merge(acc, !wrapping_mul(n, PRIME64_2), 117),
     }
 }
 

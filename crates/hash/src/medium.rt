@@ -11,6 +11,7 @@ use super::primes::{PRIME64_1, PRIME64_2, PRIME64_4};
 use super::secret::word;
 use super::text::{Text, Two};
 use super::words::{avalanche, fold};
+use numbers::wide::wrapping_mul;
 
 // The two accumulators.
 #[derive(Clone, Copy)]
@@ -43,7 +44,7 @@ fn start(n: u64) -> Acc
     ensures { result ≡ acc_medium n }
 {
     Acc {
-        a0: n.wrapping_mul(PRIME64_1),
+        a0: wrapping_mul(n, PRIME64_1),
         a1: 0,
     }
 }
@@ -60,11 +61,9 @@ fn stir(acc: Acc) -> Acc
 fn finish(acc: Acc, n: u64) -> Hash128
     ensures { result ≡ XXH3_128_17to240 n acc }
 {
-    let high = acc
-        .a0
-        .wrapping_mul(PRIME64_1)
-        .wrapping_add(acc.a1.wrapping_mul(PRIME64_4))
-        .wrapping_add(n.wrapping_mul(PRIME64_2));
+    let high = wrapping_mul(acc.a0, PRIME64_1)
+        .wrapping_add(wrapping_mul(acc.a1, PRIME64_4))
+        .wrapping_add(wrapping_mul(n, PRIME64_2));
     Hash128 {
         low: avalanche(acc.a0.wrapping_add(acc.a1)),
         high: 0u64.wrapping_sub(avalanche(high)),

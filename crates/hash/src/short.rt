@@ -8,7 +8,7 @@ ghost use Rattle.hash.specs.XXH3.{xxh3_128};
 use super::Hash128;
 use super::primes::{PRIME_MX2, PRIME32_2, PRIME64_1, PRIME64_2};
 use super::words::{avalanche, avalanche_xxh64, read32, read64};
-use numbers::wide::{high_product, rotate_left_u32, swap_bytes_u32, swap_bytes_u64};
+use numbers::wide::{high_product, rotate_left_u32, swap_bytes_u32, swap_bytes_u64, wrapping_mul};
 
 fn empty() -> Hash128
     ensures { result ≡ XXH3_128_empty }
@@ -44,7 +44,7 @@ fn end_4_to_8(l: u64, h: u64) -> Hash128
     ensures { result ≡ end4to8 l h }
 {
     let x = l ^ (h >> 3);
-    let y = (x ^ (x >> 35)).wrapping_mul(PRIME_MX2);
+    let y = wrapping_mul(x ^ (x >> 35), PRIME_MX2);
     Hash128 {
         low: y ^ (y >> 28),
         high: avalanche(h),
@@ -55,7 +55,7 @@ fn end_4_to_8(l: u64, h: u64) -> Hash128
 fn mix_4_to_8(x: u64, y: u64) -> Hash128
     ensures { result ≡ mix4to8 (x * y) }
 {
-    let l = x.wrapping_mul(y);
+    let l = wrapping_mul(x, y);
     end_4_to_8(l, high_product(x, y).wrapping_add(l << 1))
 }
 
@@ -72,9 +72,9 @@ fn end_9_to_16(l: u64, h: u64) -> Hash128
     ensures { result ≡ end9to16 l h }
 {
     let x = l ^ swap_bytes_u64(h);
-    let y = high_product(x, PRIME64_2).wrapping_add(h.wrapping_mul(PRIME64_2));
+    let y = high_product(x, PRIME64_2).wrapping_add(wrapping_mul(h, PRIME64_2));
     Hash128 {
-        low: avalanche(x.wrapping_mul(PRIME64_2)),
+        low: avalanche(wrapping_mul(x, PRIME64_2)),
         high: avalanche(y),
     }
 }
@@ -83,7 +83,7 @@ fn mix_9_to_16(x: u64, v: u64, n: u64) -> Hash128
     requires { 0 < n }
     ensures { result ≡ mix9to16 (x * 0x9e3779b185ebca87) v n }
 {
-    let l = x.wrapping_mul(PRIME64_1).wrapping_add((n - 1) << 54);
+    let l = wrapping_mul(x, PRIME64_1).wrapping_add((n - 1) << 54);
     let h = high_product(x, PRIME64_1).wrapping_add(v);
     end_9_to_16(l, h.wrapping_add((v % 0x1_0000_0000) * (PRIME32_2 - 1)))
 }

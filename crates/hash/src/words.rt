@@ -5,7 +5,7 @@ ghost use Rattle.hash.specs.Secret.{avalanche, avalanche_XXH64};
 ghost use Rattle.hash.specs.Shape.{fold_of};
 
 use super::primes::{PRIME_MX1, PRIME64_2, PRIME64_3};
-use numbers::wide::high_product;
+use numbers::wide::{high_product, wrapping_mul};
 
 // Four bytes of s from i on, the lowest first. Each of the two names its bytes: a single load, of which the compiler makes vectors. By numbers' `get`, which tests
 // for the end, 64 bytes take 161 instructions and not 120, and 577 bytes 2,613 and not 665.
@@ -37,20 +37,20 @@ pub(crate) fn read64(s: &[u8], i: usize) -> u64
 pub(crate) fn fold(a: u64, b: u64) -> u64
     ensures { result ≡ fold_of a b }
 {
-    a.wrapping_mul(b) ^ high_product(a, b)
+    wrapping_mul(a, b) ^ high_product(a, b)
 }
 
 pub(crate) fn avalanche(x: u64) -> u64
     ensures { result ≡ avalanche x }
 {
-    let y = (x ^ (x >> 37)).wrapping_mul(PRIME_MX1);
+    let y = wrapping_mul(x ^ (x >> 37), PRIME_MX1);
     y ^ (y >> 32)
 }
 
 pub(crate) fn avalanche_xxh64(x: u64) -> u64
     ensures { result ≡ avalanche_XXH64 x }
 {
-    let y = (x ^ (x >> 33)).wrapping_mul(PRIME64_2);
-    let z = (y ^ (y >> 29)).wrapping_mul(PRIME64_3);
+    let y = wrapping_mul(x ^ (x >> 33), PRIME64_2);
+    let z = wrapping_mul(y ^ (y >> 29), PRIME64_3);
     z ^ (z >> 32)
 }

@@ -12,14 +12,14 @@ use numbers::bytes::part;
 use numbers::handle::ValueHandle;
 use std::cmp::Ordering;
 
-#[derive(Clone, Copy)]
+#[derive(Clone, Copy, PartialEq, Eq)]
 pub enum Outcome {
     Found,
     Past,
     End,
 }
 
-#[derive(Clone, Copy)]
+#[derive(Clone, Copy, PartialEq, Eq)]
 pub struct Drained {
     pub state: MergeScanner,
     pub outcome: Result<Outcome, DrainRefusal>,

@@ -22,7 +22,7 @@ pub struct MergeEntry {
 }
 
 // An entry, and the position after it in its part.
-#[derive(Clone, Copy)]
+#[derive(Clone, Copy, PartialEq, Eq)]
 pub struct Head {
     pub entry: MergeEntry,
     pub next: usize,

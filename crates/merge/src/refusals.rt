@@ -12,13 +12,13 @@ pub enum MergeRefusal {
     Scan { part: usize, why: ScanRefusal },
 }
 
-#[derive(Clone, Copy)]
+#[derive(Clone, Copy, PartialEq, Eq)]
 pub enum RowsRefusal {
     Merge(MergeRefusal),
     NoRoom,
 }
 
-#[derive(Clone, Copy)]
+#[derive(Clone, Copy, PartialEq, Eq)]
 pub enum DrainRefusal {
     Merge(MergeRefusal),
     NotMatched,

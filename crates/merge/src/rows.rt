@@ -10,7 +10,7 @@ use super::refusals::MergeRefusal;
 pub use super::refusals::RowsRefusal;
 
 // How many rows were written, or none at the end; or the refusal that stands before the first.
-#[derive(Clone, Copy)]
+#[derive(Clone, Copy, PartialEq, Eq)]
 pub struct Rowed {
     pub state: MergeScanner,
     pub answer: Result<Option<usize>, RowsRefusal>,

@@ -1,4 +1,5 @@
 pub mod Reading
 pub mod Decoding
 pub mod Refused
+pub mod Padding
 pub mod Theorems

@@ -2,7 +2,8 @@
 use Rattle.std.specs.Prelude.{◌≡◌, ℕ, zero, suc, ◌+◌, ◌*◌, ◌/◌, ◌%◌, ◌^◌, List, [], ◌∷◌, slice_index, refl}
 use Rattle.std.proofs.Common.{sym, ap, ◌∙◌, arith, pow-suc, div-one}
 use Rattle.std.proofs.Math.Nat.{div-div-eq-div-mul}
-use Rattle.std.specs.Int.{byte_at, byte_worth, bytes_low_first, sum_through}
+use Rattle.std.proofs.lemmas.List.Edits.{sets}
+use Rattle.std.specs.Int.{w16, w32, w64, from_le_bytes, byte_at, byte_worth, bytes_low_first, sum_through}
 use Rattle.numbers.specs.Le.{le, num, padded}
 use Rattle.numbers.specs.LeLaws.{num_nil}
 
@@ -45,3 +46,17 @@ unfolding num padded
 num-padded zero s = refl
 num-padded (suc n) [] = omega (arith, num-padded n [], num_nil n)
 num-padded (suc n) (b ∷ bs) = omega (arith, num-padded n bs)
+
+-- the library's number of the first bytes, those that are missing as 0
+pub reads_two : (r : ℕ) (l s : List ℕ) → r ≡ from_le_bytes w16 l → l ≡ padded 2 s → r ≡ num 2 s
+reads_two r l s e f = e ∙ read_is-num 1 l ∙ ap (num 2) f ∙ num-padded 2 s
+
+pub reads_four : (r : ℕ) (l s : List ℕ) → r ≡ from_le_bytes w32 l → l ≡ padded 4 s → r ≡ num 4 s
+reads_four r l s e f = e ∙ read_is-num 3 l ∙ ap (num 4) f ∙ num-padded 4 s
+
+pub reads_eight : (r : ℕ) (l s : List ℕ) → r ≡ from_le_bytes w64 l → l ≡ padded 8 s → r ≡ num 8 s
+reads_eight r l s e f = e ∙ read_is-num 7 l ∙ ap (num 8) f ∙ num-padded 8 s
+
+-- the library's k bytes of a number, laid at a place
+pub laid : (k x y at to : ℕ) (b b' l : List ℕ) → b' ≡ sets b to l → l ≡ bytes_low_first 0 k y → to ≡ at → y ≡ x → b' ≡ sets b at (le k x)
+laid k x y at to b b' l e f g h = e ∙ rw (g, f, h) (ap (sets b at) (written_is-le k x))

@@ -66,12 +66,16 @@ overwritten-at l s at to n e f = go (nat_le at (length l)) (nat_le (length s) (l
         ∙ sets-out (drop n s) (sets l at (take n s)) (at + length (take n s)) (rw (length-sets l at (take n s), w) (omega arith))
         ∙ sets-eq (take n s) l at (omega arith) ∙ append_assoc (take at l) (take n s) (drop (at + length (take n s)) l) ∙ rw w))
 
--- the same where a part of k elements of l has become ys
-pub overwritten : {A : Type 0} (l s ys : List A) (at to k n : ℕ) → to ≡ min at (length l) → n ≡ min (length s) (length l - to) → k ≡ n → ys ≡ take n s
-    → take to l ++ (ys ++ drop k (drop to l)) ≡ sets l at s
-overwritten l s ys at to k n e f p q =
+-- the same where a part of k elements of l, from `start` on, has become ys
+pub overwritten : {A : Type 0} (l s ys zs : List A) (at to start k n : ℕ) → to ≡ min at (length l) → n ≡ min (length s) (length l - to) → start ≡ to → k ≡ n → ys ≡ zs → zs ≡ take n s
+    → take start l ++ (ys ++ drop k (drop start l)) ≡ sets l at s
+overwritten l s ys zs at to start k n e f g p q r =
     let d : drop n (drop to l) ≡ drop (to + n) l = drop-drop n to l in
-    rw (p, q, d) (overwritten-at l s at to n e f)
+    rw (g, p, q, r, d) (overwritten-at l s at to n e f)
+
+-- a part that is the front
+pub front_part : (k i n : ℕ) (s : List ℕ) → i ≡ 0 → k ≡ n → take k (drop i s) ≡ take n s
+front_part k i n s e f = rw (e, f)
 
 -- the round trip, at every width
 pub num-le : (n x : ℕ) (rest : List ℕ) → x < 256 ^ n → num n (le n x ++ rest) ≡ x

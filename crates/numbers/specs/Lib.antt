@@ -3,6 +3,7 @@ pub mod Le
 pub mod LeLaws
 pub mod Width
 pub mod BytesLaws
+pub mod Made
 pub mod Part
 pub mod PartLaws
 pub mod Reading

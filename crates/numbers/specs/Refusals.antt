@@ -1,5 +1,5 @@
 -- Document 01's number for each refusal, and the values that come with it: the definitions of the answers name their refusals by these.
-use Rattle.std.specs.Prelude.{◌≡◌, ℕ, List, [], ◌∷◌, Result, Err}
+use Rattle.std.specs.Prelude.{◌≡◌, ℕ, List, [], ◌∷◌, Result, Ok, Err}
 use Rattle.numbers.specs.Reading.{Reading, refused}
 use Rattle.numbers.specs.declared.cut.CutShort.{CutShort}
 use Rattle.numbers.specs.declared.leb128.WriteRefusal.{WriteRefusal}
@@ -14,6 +14,11 @@ values_of_cut c = c.at ∷ c.needed ∷ c.present ∷ []
 -- no room
 abbrev pub write_number : WriteRefusal → ℕ
 write_number NoRoom = 3
+
+-- of an answer: 0 where nothing is refused
+abbrev pub wrote_number : Result ℕ WriteRefusal → ℕ
+wrote_number (Ok n) = 0
+wrote_number (Err why) = write_number why
 
 -- cut short, number too long
 abbrev pub read_number : NumberRefusal → ℕ

@@ -1,6 +1,6 @@
 // Unsigned LEB128 (DWARF 5, section 7.6): written shortest, read with padding.
 ghost use Rattle.std.specs.Prelude.{◌≡◌, ◌*◌};
-ghost use Rattle.numbers.specs.Refusals.{write_number, read_number};
+ghost use Rattle.numbers.specs.Refusals.{write_number, wrote_number, read_number};
 ghost use Rattle.numbers.specs.Wrote.{wrote_of, placed};
 ghost use Rattle.numbers.specs.Leb128.{shortest, read_of, read_as};
 
@@ -28,6 +28,16 @@ impl WriteRefusal {
         match self {
             WriteRefusal::NoRoom => 3,
         }
+    }
+}
+
+// The same; 0 where the bytes were written.
+pub fn wrote_number(answer: Result<usize, WriteRefusal>) -> u64
+    ensures { result ≡ wrote_number answer }
+{
+    match answer {
+        Ok(_) => 0,
+        Err(why) => why.number(),
     }
 }
 

@@ -1,4 +1,4 @@
-// Products of words of 64 bits, and turns and swaps of words: the library's, promised in the words of the definitions.
+// Products of words of 64 bits from the halves of their factors, and the library's turns and swaps, promised in the words of the definitions.
 // Each stays, the two swaps by their widths, as a public call that docs/PROMISES.md names.
 ghost use Rattle.std.specs.Prelude.{◌≡◌, ◌*◌, ◌/◌, ◌^◌};
 ghost use Rattle.numbers.specs.Wide.{mul64, wide_of, rotl32, bswap};
@@ -14,24 +14,34 @@ pub struct Wide {
 pub fn wrapping_mul(a: u64, b: u64) -> u64
     ensures { result ≡ mul64 a b }
 {
-    a.wrapping_mul(b)
+    let al = a % 0x1_0000_0000;
+    let ah = a >> 32;
+    let bl = b % 0x1_0000_0000;
+    let bh = b >> 32;
+    let cross = (al * bh).wrapping_add(ah * bl);
+    (cross << 32).wrapping_add(al * bl)
 }
 
 // The upper half of the product.
 pub fn high_product(a: u64, b: u64) -> u64
     ensures { result ≡ a * b / 2 ^ 64 }
 {
-    product(a, b).high
+    let al = a % 0x1_0000_0000;
+    let ah = a >> 32;
+    let bl = b % 0x1_0000_0000;
+    let bh = b >> 32;
+    let t = ah * bl + ((al * bl) >> 32);
+    let u = (t % 0x1_0000_0000) + al * bh;
+    ah * bh + (t >> 32) + (u >> 32)
 }
 
 // The whole product.
 pub fn product(a: u64, b: u64) -> Wide
     ensures { result ≡ wide_of a b }
 {
-    let whole = u128::from(a) * u128::from(b);
     Wide {
-        low: (whole % 0x1_0000_0000_0000_0000) as u64,
-        high: (whole >> 64) as u64,
+        low: wrapping_mul(a, b),
+        high: high_product(a, b),
     }
 }
 

@@ -11,7 +11,7 @@ fn input() -> [u8; 4160] {
     let mut g: u64 = 2654435761;
     std::array::from_fn(|_| {
         let byte = (g >> 56) as u8;
-        g = g.wrapping_mul(11400714785074694797);
+        g = numbers::wide::wrapping_mul(g, 11400714785074694797);
         byte
     })
 }

@@ -3,7 +3,7 @@ use Rattle.std.proofs.Common.{rules}
 use mathlib.Core.Path.{ap}
 use Rattle.merge.specs.Parts.{no_part}
 use Rattle.boundary.specs.Tables.{part_at}
-use Rattle.boundary.proofs.Arrays.{made}
+use Rattle.numbers.specs.Made.{made}
 use Rattle.boundary.proofs.merged.table_of.Goals as goal
 
 pub returns : goal.returns

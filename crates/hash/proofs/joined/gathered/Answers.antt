@@ -17,11 +17,11 @@ length-stored k v b₁ b₂ p q h = ap length (stored k v b₁ b₂ p q h) ∙ l
 pub slice_bounds-upto_16-end : goal.slice_bounds-upto_16-end
 slice_bounds-upto_16-end c = sym (length-stored c.args.key.now c.args.value.now c.copy.new.buf c.copy-2.new.buf c.copy.ensures c.copy-2.ensures c.requires)
 
-pub upto_16-requires : goal.upto_16-requires
-upto_16-requires c =
+pub upto_16-requires-2 : goal.upto_16-requires-2
+upto_16-requires-2 c =
     omega (arith, length-stored c.args.key.now c.args.value.now c.copy.new.buf c.copy-2.new.buf c.copy.ensures c.copy-2.ensures c.requires)
 
 pub returns : goal.returns
 returns c =
-    c.upto_16.ensures
+    c.upto_16-2.ensures
     ∙ ap xxh3_128 (stored c.args.key.now c.args.value.now c.copy.new.buf c.copy-2.new.buf c.copy.ensures c.copy-2.ensures c.requires)

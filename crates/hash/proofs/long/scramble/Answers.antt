@@ -13,7 +13,7 @@ loop-k-init c = refl
 
 pub loop-k-preserved : goal.loop-k-preserved
 unfolding u64s secret_length secret
-loop-k-preserved c = let l = c.loop-k in next_scrambled l.k _ l.invariant c.word.ensures
+loop-k-preserved c = let l = c.loop-k in rw c.wrapping_mul.ensures (next_scrambled l.k _ l.invariant c.word.ensures)
 
 pub returns : goal.returns
 unfolding round_scramble

@@ -5,4 +5,4 @@ use Rattle.hash.proofs.medium.start.Goals as goal
 
 pub returns : goal.returns
 unfolding acc_medium
-returns c = refl
+returns c = rw c.wrapping_mul.ensures refl

@@ -5,4 +5,4 @@ use Rattle.hash.proofs.words.avalanche.Goals as goal
 
 pub returns : goal.returns
 unfolding avalanche
-returns c = refl
+returns c = rw c.wrapping_mul-y.ensures refl

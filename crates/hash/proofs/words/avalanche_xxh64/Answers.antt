@@ -5,4 +5,4 @@ use Rattle.hash.proofs.words.avalanche_xxh64.Goals as goal
 
 pub returns : goal.returns
 unfolding avalanche_XXH64
-returns c = refl
+returns c = rw (c.wrapping_mul-z.ensures, c.wrapping_mul-y.ensures) refl

@@ -1,5 +1,5 @@
 -- Each answer is the one that reading finds from the bytes passed so far.
-use Rattle.std.proofs.Common.{◌≡◌, ℕ, ◌+◌, ◌-◌, ◌*◌, ◌^◌, ◌<◌, ◌≤◌, List, length, drop, sym, ap, ◌∙◌, arith, pow_mono}
+use Rattle.std.proofs.Common.{◌≡◌, ℕ, ◌+◌, ◌-◌, ◌*◌, ◌^◌, ◌<◌, ◌≤◌, List, length, drop, sym, ap, ap₂, ◌∙◌, arith, rules, pow_mono}
 use Rattle.numbers.specs.Leb128.{Reading, got, refused, groups, read_as, read_in, read_of}
 use Rattle.numbers.specs.Width.{Holds}
 use Rattle.numbers.specs.declared.leb128.NumberRefusal.TheVariants.{CutShort, TooLong}
@@ -21,7 +21,7 @@ found of w at s t r e f = ap (read_as of) (sym f ∙ ap (read_in (groups w) (2 ^
 pub loop-i-init : goal.loop-i-init
 loop-i-init g c = let w = 8 * g.T.Number.width in
     let h = g.met.T.Number.holds in
-    (begun (groups w) c.tail-t.result.now (omega (arith, h.some)), all_left w c.MAX-left.result (omega (arith, h.some)) (omega (arith, h.all, c.MAX-left.ensures)))
+    (begun (groups w) c.tail-t.result.now (omega (arith, h.some)), all_left w _ (omega (arith, h.some)) (omega (arith, h.all, c.MAX-left.ensures)))
 
 pub returns-then-left-b : goal.returns-then-left-b
 unfolding read_as
@@ -51,7 +51,7 @@ returns-then-b-lt128 g c = let w = 8 * g.T.Number.width in
     let t = c.tail-t.result.now in
     let u = (fits _ _ l.i l.value l.weight l.left c.from-b.result _ g.met.T.Number.holds p (omega (arith, c.else-left-lt128.either))).0 in
     let reads = turn-got (2 ^ w) c.args.at (groups w) l.i l.value l.weight t p.0 c.from-b.result c.from-b.ensures c.loop-i-test.true c.if-b-lt128.true u in
-    ap (λ x. got x (l.i + 1)) c.narrow.ensures ∙ found g.T.Number.of w c.args.at c.args.s.now t (got (l.value + l.weight * c.from-b.result) (l.i + 1)) c.tail-t.ensures.0 reads
+    ap₂ got c.narrow.ensures (search rules) ∙ found g.T.Number.of w c.args.at c.args.s.now t (got (l.value + l.weight * c.from-b.result) (l.i + 1)) c.tail-t.ensures.0 reads
 
 pub overflow_mul-value : goal.overflow_mul-value
 overflow_mul-value g c = let l = c.loop-i in
@@ -83,4 +83,4 @@ returns g c = let w = 8 * g.T.Number.width in
     let n = length t in
     let e : l.i ≡ n = omega arith in
     let cuts = turn-cut (2 ^ w) c.args.at (groups w) l.i l.value l.weight t l.invariant.0 (omega arith) in
-    found g.T.Number.of w c.args.at c.args.s.now t (refused (CutShort (record { at = c.args.at; needed = n + 1; present = n }))) c.tail-t.ensures.0 (rw e at cuts)
+    ap refused (search rules) ∙ found g.T.Number.of w c.args.at c.args.s.now t (refused (CutShort (record { at = c.args.at; needed = n + 1; present = n }))) c.tail-t.ensures.0 (rw e at cuts)

@@ -6,5 +6,5 @@ use Rattle.numbers.proofs.spell.size.Goals as goal
 pub returns : goal.returns
 returns g c = let e = g.met.T.Number.widens c.args.x c.into-x.result c.into-x.ensures in
     let top = c.ilog2-top.ensures in
-    let is = groups_to-top c.into-x.result c.ilog2-top.result (rw c.max.ensures at top.power_le) (rw c.max.ensures at top.next_power_gt) in
+    let is = groups_to-top c.into-x.result c.ilog2-top.result (omega (arith, c.max.ensures, top.power_le)) (omega (arith, c.max.ensures, top.next_power_gt)) in
     record { size = rw e at is; bound = omega (arith, top.bound) }

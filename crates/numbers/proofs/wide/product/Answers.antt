@@ -1,8 +1,7 @@
 -- The two halves are those of the exact product.
-use Rattle.std.proofs.Common.{refl}
 use Rattle.numbers.specs.Wide.{wide_of}
 use Rattle.numbers.proofs.wide.product.Goals as goal
 
 pub returns : goal.returns
 unfolding wide_of
-returns c = rw (c.from.ensures, c.from-2.ensures) refl
+returns c = cc
